@@ -1,0 +1,329 @@
+-- The two edits: done, one changes its own bytes to the extended values and no other, and the patch stays accepted; refused, it changes
+-- nothing. Rows that pass give the place and the ranges; the laws of a stored byte give the rest.
+use mathlib.Core.Path.{_≡_, refl, ap, sym, _∙_, subst}
+use mathlib.Core.Bool.{Bool, true, false, cond, not, _&&_}
+use mathlib.Core.List.{List, [], _∷_, _++_}
+use mathlib.Core.Option.{Option, none, some}
+use Prim.Native.Nat.{ℕ, suc, _+_, _*_, _≤_, _<_}
+use native.Mathlib.Omega.{arith}
+use lib.Dec.{T, eqb, ltb, ltb→lt, T-not}
+use lib.ListN.{length, getD, set, length-set}
+use lib.Seq.{getD-set-same, getD-set-other}
+use borrow.Author.Tests.{lt-ltb, le-ltb, le-leb, ltb-true, ltb-false, eqb-true, eqb-false, eq-eqb, ne-eqb}
+use Rattle.answers.specs.Table.{Row, Verdict, done, refused, first, says}
+use Rattle.answers.specs.Lists.{All}
+use Rattle.answers.specs.Effect.{Effect, outcome, changed, tested}
+use Rattle.answers.proofs.Lists.{all-append, all-left, all-right, all-weaken}
+use Rattle.answers.proofs.Rows.{Silent, done-passed, numberOf, answered-silent, refused-number, row-at-silent}
+use Rattle.patch.specs.Fields.{between, inRange, placeOf}
+use Rattle.patch.specs.Patch.{outFrom, firstOut, halfUsed, firstHalf, patchRows}
+use Rattle.patch.proofs.Below.{parts}
+use Rattle.patch.proofs.Answers.{stopped}
+use Rattle.patch.proofs.Rules.{found-place, one-in}
+use Rattle.edits.specs.Edits.{extended, storedFor, editRows, busRows, withByte, withBus, applying, applyingBus}
+use Rattle.edits.proofs.Tests.{rows-at, rows-nowhere, value-inside, patch-length, bus-number, bus-amount, bus-bytes, bus-whole}
+use Rattle.edits.proofs.Accepted.{out-set, Whole, each-whole, patch-accepted}
+
+-- Below 64 a value stays as it is.
+pub extended-low : (v : ℕ) → v < 64 → extended v ≡ v
+unfolding extended
+extended-low v h = simp (lt-ltb v 64 h)
+
+-- From 64 on it is 128 higher.
+pub extended-high : (v : ℕ) → 64 ≤ v → extended v ≡ v + 128
+unfolding extended
+extended-high v h = simp (le-ltb v 64 h)
+
+-- An extended value is a byte.
+pub extended-byte : (v : ℕ) → v ≤ 127 → extended v < 256
+unfolding extended
+extended-byte v h = go (ltb v 64)
+  where
+    go : (t : Bool) → cond t v (v + 128) < 256
+    go true = omega arith
+    go false = omega arith
+
+-- Parameter 21 stores a value as it is.
+pub stored-21 : (v : ℕ) → storedFor 21 v ≡ v
+unfolding storedFor
+stored-21 v = refl
+
+-- Every other parameter stores it extended.
+pub stored-extended : (n v : ℕ) → (n ≡ 21 → ⊥) → storedFor n v ≡ extended v
+unfolding storedFor
+stored-extended n v h = simp (ne-eqb n 21 h)
+
+-- An extended amount always lies in the range of an amount: behind 8, the test for 14 never holds.
+pub amount-inside : (a : ℕ) → a ≤ 127 → between 0xC0 0x3F (extended a) ≡ true
+unfolding between
+amount-inside a h = go (ltb a 64) refl
+  where
+    go : (t : Bool) → ltb a 64 ≡ t → between 0xC0 0x3F (extended a) ≡ true
+    go true q =
+        let l = ltb-true a 64 q in
+        let e = extended-low a l in
+        rw e (simp (lt-ltb a 192 (omega arith), le-leb a 63 (omega arith)))
+    go false q =
+        let l = ltb-false a 64 q in
+        let e = extended-high a l in
+        rw e (simp (le-ltb (a + 128) 192 (omega arith), lt-ltb (a + 128) 256 (omega arith)))
+
+-- A number that an edit refuses with: neither 0, which is done, nor 13, which is a buffer's.
+abbrev pub Refusal : ℕ → Type 0
+Refusal k = (k ≡ 0 → ⊥) × (k ≡ 13 → ⊥)
+
+refusal : (k : ℕ) → T (ltb 0 k && not (eqb k 13)) → Refusal k
+refusal k t =
+    let q = parts (ltb 0 k) (not (eqb k 13)) t in
+    let l = ltb→lt 0 k (q .0) in
+    ((λ e. omega arith), (λ e. T-not (eqb k 13) (q .1) (subst T (sym (eq-eqb k 13 e)) tt)))
+
+abbrev Refusals : List Row → Type 0
+Refusals rows = All (λ (r : Row). Refusal (numberOf r)) rows
+
+edit-numbers : (n v : ℕ) → Refusals (editRows n v)
+unfolding editRows
+edit-numbers n v = (refusal 8 tt, (refusal 11 tt, tt))
+
+bus-numbers : (b s a d : ℕ) → Refusals (busRows b s a d)
+unfolding busRows
+bus-numbers b s a d = (refusal 8 tt, (refusal 14 tt, (refusal 11 tt, (refusal 12 tt, tt))))
+
+patch-numbers : (p : List ℕ) → Refusals (patchRows p)
+patch-numbers p = (refusal 7 tt, (refusal 11 tt, (refusal 12 tt, tt)))
+
+not-zero : (rows : List Row) → Refusals rows → All (λ (r : Row). numberOf r ≡ 0 → ⊥) rows
+not-zero rows a = all-weaken (λ (r : Row). Refusal (numberOf r)) (λ (r : Row). numberOf r ≡ 0 → ⊥) (λ r q. q .0) rows a
+
+-- A refusal of a remote edit is neither 0 nor 13.
+pub edit-rows-numbers : (n v k d : ℕ) → first (editRows n v) (done 0 [] []) ≡ refused k d → Refusal k
+edit-rows-numbers n v k d e = refused-number Refusal (editRows n v) 0 [] [] k d (edit-numbers n v) e
+
+-- Nor is one of a matrix modulation edit.
+pub bus-rows-numbers : (b s a d k m : ℕ) → first (busRows b s a d) (done 0 [] []) ≡ refused k m → Refusal k
+bus-rows-numbers b s a d k m e = refused-number Refusal (busRows b s a d) 0 [] [] k m (bus-numbers b s a d) e
+
+-- The rows of a remote edit that are answered 0 say nothing.
+pub edit-passed : (n v : ℕ) → tested (editRows n v) .answer ≡ 0 → Silent (editRows n v)
+edit-passed n v e = answered-silent (editRows n v) (not-zero (editRows n v) (edit-numbers n v)) e
+
+-- Nor do those of a matrix modulation edit.
+pub bus-passed : (b s a d : ℕ) → tested (busRows b s a d) .answer ≡ 0 → Silent (busRows b s a d)
+bus-passed b s a d e = answered-silent (busRows b s a d) (not-zero (busRows b s a d) (bus-numbers b s a d)) e
+
+-- Rows of a remote edit that are answered otherwise refuse with that answer and its detail.
+pub edit-stopped : (n v : ℕ) (w : Verdict) → (tested (editRows n v) .answer ≡ 0 → ⊥)
+    → first (editRows n v) w ≡ refused (tested (editRows n v) .answer) (tested (editRows n v) .detail)
+unfolding editRows
+edit-stopped n v w h = stopped (editRows n v) [] w h
+
+-- So do those of a matrix modulation edit.
+pub bus-stopped : (b s a d : ℕ) (w : Verdict) → (tested (busRows b s a d) .answer ≡ 0 → ⊥)
+    → first (busRows b s a d) w ≡ refused (tested (busRows b s a d) .answer) (tested (busRows b s a d) .detail)
+unfolding busRows
+bus-stopped b s a d w h = stopped (busRows b s a d) [] w h
+
+kept : (detail : ℕ) (new old : List ℕ) (v : Verdict) → (changed detail new old v .result .answer ≡ 0 → ⊥) → changed detail new old v .lent ≡ old
+kept detail new old (done o b p) h = absurd (h refl)
+kept detail new old (refused n d) h = refl
+
+-- A remote edit that is answered otherwise than 0 leaves the patch as it was.
+pub edit-refused-keeps : (n v : ℕ) (p : List ℕ) → (applying n v p .result .answer ≡ 0 → ⊥) → applying n v p .lent ≡ p
+unfolding applying
+edit-refused-keeps n v p h = kept 0 _ p (first (editRows n v ++ patchRows p) (done 0 [] [])) h
+
+-- So does a matrix modulation edit.
+pub bus-refused-keeps : (b s a d : ℕ) (p : List ℕ) → (applyingBus b s a d p .result .answer ≡ 0 → ⊥) → applyingBus b s a d p .lent ≡ p
+unfolding applyingBus
+bus-refused-keeps b s a d p h = kept 0 _ p (first (busRows b s a d ++ patchRows p) (done 0 [] [])) h
+
+answered-done : (rows : List Row) (new old : List ℕ) → Refusals rows → changed 0 new old (first rows (done 0 [] [])) .result .answer ≡ 0
+    → first rows (done 0 [] []) ≡ done 0 [] []
+answered-done rows new old a e = go (first rows (done 0 [] [])) refl e
+  where
+    go : (v : Verdict) → first rows (done 0 [] []) ≡ v → changed 0 new old v .result .answer ≡ 0 → first rows (done 0 [] []) ≡ done 0 [] []
+    go (done o b p) q e = let r = done-passed rows (done 0 [] []) o b p q .1 in cc
+    go (refused n d) q e = absurd (refused-number Refusal rows 0 [] [] n d a q .0 e)
+
+-- A remote edit that is answered 0 is done: no row of its own says anything, and none of the patch's.
+pub edit-done : (n v : ℕ) (p : List ℕ) → applying n v p .result .answer ≡ 0 → first (editRows n v ++ patchRows p) (done 0 [] []) ≡ done 0 [] []
+unfolding applying
+edit-done n v p e =
+    answered-done (editRows n v ++ patchRows p) (withByte (placeOf n) (storedFor n v) p) p
+    (all-append (λ (r : Row). Refusal (numberOf r)) (editRows n v) (patchRows p) (edit-numbers n v) (patch-numbers p)) e
+
+-- So is a matrix modulation edit.
+pub bus-done : (b s a d : ℕ) (p : List ℕ) → applyingBus b s a d p .result .answer ≡ 0
+    → first (busRows b s a d ++ patchRows p) (done 0 [] []) ≡ done 0 [] []
+unfolding applyingBus
+bus-done b s a d p e =
+    answered-done (busRows b s a d ++ patchRows p) (withBus b s a d p) p
+    (all-append (λ (r : Row). Refusal (numberOf r)) (busRows b s a d) (patchRows p) (bus-numbers b s a d) (patch-numbers p)) e
+
+-- A remote edit that is done: the byte at its parameter's place becomes the extended value, every other byte stays, and the patch
+-- afterwards passes its tests.
+pub record EditDone (n v : ℕ) (p : List ℕ) : Type 0 where
+  pub place : ℕ
+  pub found : placeOf n ≡ some place
+  pub inside : place < 134
+  pub answered : applying n v p .result ≡ outcome 0 0
+  pub stored : applying n v p .lent ≡ set p place (storedFor n v)
+  pub own : getD (applying n v p .lent) place 0 ≡ storedFor n v
+  pub others : (i : ℕ) → (i ≡ place → ⊥) → getD (applying n v p .lent) i 0 ≡ getD p i 0
+  pub accepted : tested (patchRows (applying n v p .lent)) ≡ outcome 0 0
+
+-- A patch whose rows say nothing has each byte in range, and whole buses.
+patch-whole : (p : List ℕ) → Silent (patchRows p) → (firstOut p ≡ none) × ((c : ℕ) → c < 10 → Whole p c)
+patch-whole p a =
+    let whole = row-at-silent 12 (firstHalf p) (a .1 .1 .0) in
+    (row-at-silent 11 (firstOut p) (a .1 .0), λ c k. each-whole 10 0 p whole c (omega arith) (omega arith))
+
+-- One byte stored below the buses.
+one-stored : (p : List ℕ) (k b : ℕ) → Silent (patchRows p) → k < 104 → inRange k b ≡ true → tested (patchRows (set p k b)) ≡ outcome 0 0
+one-stored p k b a l h =
+    let w = patch-whole p a in
+    let at : 0 + k ≡ k = omega arith in
+    let same : (i : ℕ) → 104 ≤ i → getD (set p k b) i 0 ≡ getD p i 0 = λ i g. getD-set-other p k i b 0 (λ e. omega arith) in
+    patch-accepted (set p k b) (length-set p k b ∙ patch-length p a) (out-set 0 k b p (w .0) (rw at h))
+    (λ c g. rw (same (104 + 3 * c) (omega arith), same (106 + 3 * c) (omega arith)) (w .1 c g))
+
+edit-stored : (n v k : ℕ) (p : List ℕ) → placeOf n ≡ some k → first (editRows n v ++ patchRows p) (done 0 [] []) ≡ done 0 [] []
+    → applying n v p ≡ record { result = outcome 0 0; lent = set p k (storedFor n v) }
+unfolding applying
+edit-stored n v k p q e =
+    ap (changed 0 (withByte (placeOf n) (storedFor n v) p) p) e
+    ∙ ap (λ (o : Option ℕ). changed 0 (withByte o (storedFor n v) p) p (done 0 [] [])) q
+
+edit-at : (n v k : ℕ) (p : List ℕ) → placeOf n ≡ some k → first (editRows n v ++ patchRows p) (done 0 [] []) ≡ done 0 [] [] → EditDone n v p
+edit-at n v k p q e =
+    let silent = done-passed (editRows n v ++ patchRows p) (done 0 [] []) 0 [] [] e .0 in
+    let quiet = all-right (λ (r : Row). says r ≡ none) (editRows n v) (patchRows p) silent in
+    let edit = subst Silent (rows-at n v k q) (all-left (λ (r : Row). says r ≡ none) (editRows n v) (patchRows p) silent) in
+    let sits = found-place n k q in
+    let l = patch-length p quiet in
+    let new = edit-stored n v k p q e in
+    let to = ap (λ (f : Effect). f .lent) new in
+    record {
+      place = k;
+      found = q;
+      inside = omega arith;
+      answered = ap (λ (f : Effect). f .result) new;
+      stored = to;
+      own = ap (λ (r : List ℕ). getD r k 0) to ∙ getD-set-same p k (storedFor n v) 0 (omega arith);
+      others = λ i h. ap (λ (r : List ℕ). getD r i 0) to ∙ getD-set-other p k i (storedFor n v) 0 h;
+      accepted = ap (λ (r : List ℕ). tested (patchRows r)) to ∙ one-stored p k (storedFor n v) quiet (sits .high) (value-inside k n v edit);
+    }
+
+-- A remote edit that is done changes its own field to the extended value and no other byte, and the patch stays accepted.
+pub edit-own-field : (n v : ℕ) (p : List ℕ) → first (editRows n v ++ patchRows p) (done 0 [] []) ≡ done 0 [] [] → EditDone n v p
+edit-own-field n v p e = go (placeOf n) refl
+  where
+    go : (o : Option ℕ) → placeOf n ≡ o → EditDone n v p
+    go none q =
+        let refuses = ap (λ (rows : List Row). first (rows ++ patchRows p) (done 0 [] [])) (rows-nowhere n v q) in
+        let z : _≡_ {A = ℕ} 0 1 = cc in
+        absurd (omega arith)
+    go (some k) q = edit-at n v k p q e
+
+-- A matrix modulation edit that is done: its bus holds source, extended amount and destination, every other byte stays, and the patch
+-- afterwards passes its tests.
+pub record BusDone (b s a d : ℕ) (p : List ℕ) : Type 0 where
+  pub bus : b ≤ 9
+  pub seven-bits : a ≤ 127
+  pub answered : applyingBus b s a d p .result ≡ outcome 0 0
+  pub stored : applyingBus b s a d p .lent ≡ withBus b s a d p
+  pub source : getD (applyingBus b s a d p .lent) (104 + 3 * b) 0 ≡ s
+  pub amount : getD (applyingBus b s a d p .lent) (105 + 3 * b) 0 ≡ extended a
+  pub destination : getD (applyingBus b s a d p .lent) (106 + 3 * b) 0 ≡ d
+  pub others : (i : ℕ) → (i ≡ 104 + 3 * b → ⊥) → (i ≡ 105 + 3 * b → ⊥) → (i ≡ 106 + 3 * b → ⊥)
+      → getD (applyingBus b s a d p .lent) i 0 ≡ getD p i 0
+  pub accepted : tested (patchRows (applyingBus b s a d p .lent)) ≡ outcome 0 0
+
+-- The three bytes of a bus of 134 bytes, stored.
+module _ (b s a d : ℕ) (p : List ℕ) (h : b ≤ 9) (l : length p ≡ 134) where
+  abbrev one : List ℕ
+  one = set p (104 + 3 * b) s
+
+  abbrev two : List ℕ
+  two = set one (105 + 3 * b) (extended a)
+
+  with-length : length (withBus b s a d p) ≡ 134
+  unfolding withBus
+  with-length = simp length-set l
+
+  with-others : (i : ℕ) → (i ≡ 104 + 3 * b → ⊥) → (i ≡ 105 + 3 * b → ⊥) → (i ≡ 106 + 3 * b → ⊥) → getD (withBus b s a d p) i 0 ≡ getD p i 0
+  unfolding withBus
+  with-others i n₀ n₁ n₂ =
+      getD-set-other two (106 + 3 * b) i d 0 n₂ ∙ getD-set-other one (105 + 3 * b) i (extended a) 0 n₁ ∙ getD-set-other p (104 + 3 * b) i s 0 n₀
+
+  with-source : getD (withBus b s a d p) (104 + 3 * b) 0 ≡ s
+  unfolding withBus
+  with-source =
+      getD-set-other two (106 + 3 * b) (104 + 3 * b) d 0 (λ e. omega arith)
+      ∙ getD-set-other one (105 + 3 * b) (104 + 3 * b) (extended a) 0 (λ e. omega arith)
+      ∙ getD-set-same p (104 + 3 * b) s 0 (omega arith)
+
+  with-amount : getD (withBus b s a d p) (105 + 3 * b) 0 ≡ extended a
+  unfolding withBus
+  with-amount =
+      getD-set-other two (106 + 3 * b) (105 + 3 * b) d 0 (λ e. omega arith)
+      ∙ getD-set-same one (105 + 3 * b) (extended a) 0 (simp length-set (omega arith))
+
+  with-destination : getD (withBus b s a d p) (106 + 3 * b) 0 ≡ d
+  unfolding withBus
+  with-destination = getD-set-same two (106 + 3 * b) d 0 (simp length-set (omega arith))
+
+  with-whole : halfUsed s d ≡ false → ((c : ℕ) → c < 10 → Whole p c) → (c : ℕ) → c < 10 → Whole (withBus b s a d p) c
+  with-whole u w c k = go (eqb c b) refl
+    where
+      go : (t : Bool) → eqb c b ≡ t → Whole (withBus b s a d p) c
+      go true q = let same = eqb-true c b q in rw (same, with-source, with-destination) u
+      go false q =
+          let other = eqb-false c b q in
+          let first-byte = with-others (104 + 3 * c) (λ e. other (omega arith)) (λ e. omega arith) (λ e. omega arith) in
+          let last-byte = with-others (106 + 3 * c) (λ e. omega arith) (λ e. omega arith) (λ e. other (omega arith)) in
+          rw (first-byte, last-byte) (w c k)
+
+  with-ranges : firstOut p ≡ none → outFrom (104 + 3 * b) (s ∷ extended a ∷ d ∷ []) ≡ none → firstOut (withBus b s a d p) ≡ none
+  unfolding withBus
+  with-ranges e o =
+      let in₀ = one-in (104 + 3 * b) s (extended a ∷ d ∷ []) o in
+      let in₁ = one-in (suc (104 + 3 * b)) (extended a) (d ∷ []) (in₀ .1) in
+      let in₂ = one-in (suc (suc (104 + 3 * b))) d [] (in₁ .1) in
+      let k₀ : 104 + 3 * b ≡ 0 + (104 + 3 * b) = omega arith in
+      let k₁ : suc (104 + 3 * b) ≡ 0 + (105 + 3 * b) = omega arith in
+      let k₂ : suc (suc (104 + 3 * b)) ≡ 0 + (106 + 3 * b) = omega arith in
+      let e₀ = out-set 0 (104 + 3 * b) s p e (subst (λ (k : ℕ). inRange k s ≡ true) k₀ (in₀ .0)) in
+      let e₁ = out-set 0 (105 + 3 * b) (extended a) one e₀ (subst (λ (k : ℕ). inRange k (extended a) ≡ true) k₁ (in₁ .0)) in
+      out-set 0 (106 + 3 * b) d two e₁ (subst (λ (k : ℕ). inRange k d ≡ true) k₂ (in₂ .0))
+
+bus-stored : (b s a d : ℕ) (p : List ℕ) → first (busRows b s a d ++ patchRows p) (done 0 [] []) ≡ done 0 [] []
+    → applyingBus b s a d p ≡ record { result = outcome 0 0; lent = withBus b s a d p }
+unfolding applyingBus
+bus-stored b s a d p e = ap (changed 0 (withBus b s a d p) p) e
+
+-- A matrix modulation edit that is done changes the three bytes of its bus and no other byte, and the patch stays accepted.
+pub bus-own-field : (b s a d : ℕ) (p : List ℕ) → first (busRows b s a d ++ patchRows p) (done 0 [] []) ≡ done 0 [] [] → BusDone b s a d p
+bus-own-field b s a d p e =
+    let silent = done-passed (busRows b s a d ++ patchRows p) (done 0 [] []) 0 [] [] e .0 in
+    let edit = all-left (λ (r : Row). says r ≡ none) (busRows b s a d) (patchRows p) silent in
+    let quiet = all-right (λ (r : Row). says r ≡ none) (busRows b s a d) (patchRows p) silent in
+    let w = patch-whole p quiet in
+    let l = patch-length p quiet in
+    let h = bus-number b s a d edit in
+    let new = bus-stored b s a d p e in
+    let to = ap (λ (f : Effect). f .lent) new in
+    record {
+      bus = h;
+      seven-bits = bus-amount b s a d edit;
+      answered = ap (λ (f : Effect). f .result) new;
+      stored = to;
+      source = ap (λ (r : List ℕ). getD r (104 + 3 * b) 0) to ∙ with-source b s a d p h l;
+      amount = ap (λ (r : List ℕ). getD r (105 + 3 * b) 0) to ∙ with-amount b s a d p h l;
+      destination = ap (λ (r : List ℕ). getD r (106 + 3 * b) 0) to ∙ with-destination b s a d p h l;
+      others = λ i n₀ n₁ n₂. ap (λ (r : List ℕ). getD r i 0) to ∙ with-others b s a d p h l i n₀ n₁ n₂;
+      accepted =
+          ap (λ (r : List ℕ). tested (patchRows r)) to
+          ∙ patch-accepted (withBus b s a d p) (with-length b s a d p h l) (with-ranges b s a d p h l (w .0) (bus-bytes b s a d edit))
+          (with-whole b s a d p h l (bus-whole b s a d edit) (w .1));
+    }

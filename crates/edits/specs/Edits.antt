@@ -1,0 +1,74 @@
+-- The two edits: their tests, which reading, writing and applying share, and what they change.
+use mathlib.Core.Bool.{Bool, true, false, cond, not, _||_}
+use mathlib.Core.List.{List, [], _∷_, _++_}
+use mathlib.Core.Option.{Option, none, some}
+use Prim.Native.Nat.{ℕ, _+_, _*_}
+use lib.Dec.{eqb, ltb}
+use lib.ListN.{set}
+use Rattle.answers.specs.Table.{Row, row, rowAt, done, first}
+use Rattle.answers.specs.Effect.{Effect, changed}
+use Rattle.patch.specs.Fields.{between, inRange, placeOf}
+use Rattle.patch.specs.Patch.{outFrom, halfUsed, patchRows}
+
+-- From seven bits to eight: bit 6 is copied into bit 7.
+unfoldable pub extended : ℕ → ℕ
+extended v = cond (ltb v 64) v (v + 128)
+
+-- The byte that a 06H edit stores. Parameter 21 is the one exception.
+unfoldable pub storedFor : ℕ → ℕ → ℕ
+storedFor parameter v = cond (eqb parameter 21) v (extended v)
+
+abbrev pub missing : Option ℕ → Bool
+missing none = true
+missing (some k) = false
+
+-- The place k, where a byte does not lie in its range.
+abbrev pub outAt : Option ℕ → ℕ → Option ℕ
+outAt none b = none
+outAt (some k) b = cond (inRange k b) none (some k)
+
+-- The tests of the value of a 06H edit whose field stands at place k: 8, then 11.
+unfoldable pub valueRows : ℕ → ℕ → ℕ → List Row
+valueRows k parameter v = row 8 (ltb 127 v) ∷ rowAt 11 (outAt (some k) (storedFor parameter v)) ∷ []
+
+-- The tests of a 06H edit: 8, then 11.
+unfoldable pub editRows : ℕ → ℕ → List Row
+editRows parameter v =
+    row 8 (missing (placeOf parameter) || ltb 127 v) ∷
+    rowAt 11 (outAt (placeOf parameter) (storedFor parameter v)) ∷ []
+
+-- The tests of the three bytes of a bus, the amount as stored: 11, then 12.
+unfoldable pub byteRows : ℕ → ℕ → ℕ → ℕ → List Row
+byteRows bus source amount destination =
+    rowAt 11 (outFrom (104 + 3 * bus) (source ∷ amount ∷ destination ∷ [])) ∷
+    rowAt 12 (cond (halfUsed source destination) (some bus) none) ∷ []
+
+-- The tests of a 0BH edit: 8, 14, 11, 12. A bus has its source at 104 + 3b, its amount and its destination behind it.
+unfoldable pub busRows : ℕ → ℕ → ℕ → ℕ → List Row
+busRows bus source amount destination =
+    row 8 (ltb 9 bus || ltb 127 amount) ∷
+    row 14 (not (between 0xC0 0x3F (extended amount))) ∷
+    rowAt 11 (outFrom (104 + 3 * bus) (source ∷ extended amount ∷ destination ∷ [])) ∷
+    rowAt 12 (cond (halfUsed source destination) (some bus) none) ∷ []
+
+-- A patch with one byte changed, at the place of a parameter.
+abbrev pub withByte : Option ℕ → ℕ → List ℕ → List ℕ
+withByte none b p = p
+withByte (some k) b p = set p k b
+
+-- A patch with the three bytes of a bus changed.
+unfoldable pub withBus : ℕ → ℕ → ℕ → ℕ → List ℕ → List ℕ
+withBus bus source amount destination p =
+    set (set (set p (104 + 3 * bus) source) (105 + 3 * bus) (extended amount)) (106 + 3 * bus) destination
+
+-- Applying a 06H edit to a lent patch: the edit's own refusals, then the patch's.
+unfoldable pub applying : ℕ → ℕ → List ℕ → Effect
+applying parameter v p =
+    changed 0 (withByte (placeOf parameter) (storedFor parameter v) p) p
+    (first (editRows parameter v ++ patchRows p) (done 0 [] []))
+
+-- Applying a 0BH edit to a lent patch.
+unfoldable pub applyingBus : ℕ → ℕ → ℕ → ℕ → List ℕ → Effect
+applyingBus bus source amount destination p =
+    changed 0 (withBus bus source amount destination p) p
+    (first (busRows bus source amount destination ++ patchRows p) (done 0 [] []))

@@ -1,0 +1,146 @@
+// The two edits: their tests, which reading, writing and applying share, and applying one to a lent patch.
+// Below it: answers, patch.
+use answers::DONE;
+use answers::HALF_USED;
+use answers::NOT_ALLOWED;
+use answers::OUT_OF_RANGE;
+use answers::Outcome;
+use answers::WRONG_AMOUNT;
+use patch::fields::FoundPlace;
+use patch::fields::Parameter;
+ghost use mathlib.Core.Path.{_≡_};
+ghost use Prim.Native.Nat.{_<_, _≤_};
+ghost use Rattle.answers.specs.Effect.{Gives, tested};
+ghost use Rattle.edits.specs.Edits.{extended, storedFor, valueRows, editRows, byteRows, busRows, applying, applyingBus};
+
+// From seven bits to eight: bit 6 is copied into bit 7. The callers below have seen that v is at most 127.
+fn extend(v: u8) -> u8
+    requires { ⌜ v ≤ 127 ⌝ }
+    ensures { λ r. ⌜ r ≡ extended v ⌝ }
+{
+    if v < 64 {
+        return v;
+    }
+    v + 128
+}
+
+// The byte that a remote edit stores: the extended value, but for parameter 21. The callers below have seen that v is at most 127.
+fn stored_for(parameter: u8, v: u8) -> u8
+    requires { ⌜ v ≤ 127 ⌝ }
+    ensures { λ r. ⌜ r ≡ storedFor parameter v ⌝ }
+{
+    if parameter == 21 {
+        return v;
+    }
+    extend(v)
+}
+
+// The value of a remote edit at its parameter's place: 8, then 11. The callers below have the place from the table.
+fn test_value(place: usize, parameter: u8, value: u8) -> Outcome
+    requires { ⌜ place < 134 ⌝ }
+    ensures { λ r. ⌜ r ≡ tested (valueRows place parameter value) ⌝ }
+{
+    if 127 < value {
+        return answers::refused(NOT_ALLOWED, 0);
+    }
+    if !patch::fields::in_range(place, stored_for(parameter, value)) {
+        return answers::refused(OUT_OF_RANGE, place);
+    }
+    answers::done(0)
+}
+
+// The tests of a remote edit: 8, then 11 with its field's place.
+pub fn test_edit(parameter: u8, value: u8) -> Outcome
+    ensures { λ r. ⌜ r ≡ tested (editRows parameter value) ⌝ }
+{
+    let found = patch::fields::place_of(Parameter(parameter));
+    match found {
+        FoundPlace::At(place) => {
+            let k = place.0 as usize;
+            test_value(k, parameter, value)
+        }
+        FoundPlace::Nothing => answers::refused(NOT_ALLOWED, 0),
+    }
+}
+
+// The three bytes of a bus, the amount as it is stored: 11 with the lowest place, then 12 with the bus. Its caller has tested the bus.
+fn test_bytes(bus: u8, source: u8, amount: u8, destination: u8) -> Outcome
+    requires { ⌜ bus ≤ 9 ⌝ }
+    ensures { λ r. ⌜ r ≡ tested (byteRows bus source amount destination) ⌝ }
+{
+    let b = bus as usize;
+    let k = 104 + 3 * b;
+    if !patch::fields::in_range(k, source) {
+        return answers::refused(OUT_OF_RANGE, k);
+    }
+    if !patch::fields::in_range(k + 1, amount) {
+        return answers::refused(OUT_OF_RANGE, k + 1);
+    }
+    if !patch::fields::in_range(k + 2, destination) {
+        return answers::refused(OUT_OF_RANGE, k + 2);
+    }
+    if patch::checks::half_used(source, destination) {
+        return answers::refused(HALF_USED, b);
+    }
+    answers::done(0)
+}
+
+// The tests of a matrix modulation edit: 8, then 14, then 11 with the lowest of its places, then 12 with its bus.
+pub fn test_bus_edit(bus: u8, source: u8, amount: u8, destination: u8) -> Outcome
+    ensures { λ r. ⌜ r ≡ tested (busRows bus source amount destination) ⌝ }
+{
+    if 9 < bus {
+        return answers::refused(NOT_ALLOWED, 0);
+    }
+    if 127 < amount {
+        return answers::refused(NOT_ALLOWED, 0);
+    }
+    let stored = extend(amount);
+    if !patch::fields::lies_between(0xC0, 0x3F, stored) {
+        return answers::refused(WRONG_AMOUNT, 0);
+    }
+    test_bytes(bus, source, stored, destination)
+}
+
+// Applies a remote edit to a lent patch: its own 8 and 11, then the patch's 7, 11 and 12. Done, the field's byte is the extended
+// value and every other byte keeps its value; refused, every byte does.
+pub fn apply_edit(p: &mut [u8], parameter: u8, value: u8) -> Outcome
+    ensures { λ r. ⌜ Gives (applying parameter value (now (p .entry))) r (now (p .exit)) ⌝ }
+{
+    let FoundPlace::At(place) = patch::fields::place_of(Parameter(parameter)) else {
+        return answers::refused(NOT_ALLOWED, 0);
+    };
+    let k = place.0 as usize;
+    let edit = test_value(k, parameter, value);
+    if edit.answer != DONE {
+        return edit;
+    }
+    let tested = patch::checks::test(p);
+    if tested.answer != DONE {
+        return tested;
+    }
+    let stored = stored_for(parameter, value);
+    p[k] = stored;
+    answers::done(0)
+}
+
+// Applies a matrix modulation edit to a lent patch: its own 8, 14, 11 and 12, then the patch's 7, 11 and 12. Done, the three bytes
+// of the bus are the edit's, the amount extended, and every other byte keeps its value; refused, every byte does.
+pub fn apply_bus_edit(p: &mut [u8], bus: u8, source: u8, amount: u8, destination: u8) -> Outcome
+    ensures { λ r. ⌜ Gives (applyingBus bus source amount destination (now (p .entry))) r (now (p .exit)) ⌝ }
+{
+    let bus_edit = test_bus_edit(bus, source, amount, destination);
+    if bus_edit.answer != DONE {
+        return bus_edit;
+    }
+    let tested = patch::checks::test(p);
+    if tested.answer != DONE {
+        return tested;
+    }
+    let b = bus as usize;
+    let stored = extend(amount);
+    p[104 + 3 * b] = source;
+    p[105 + 3 * b] = stored;
+    p[106 + 3 * b] = destination;
+    answers::done(0)
+}

@@ -1,0 +1,98 @@
+-- Which bytes each kind has, and what follows for the bytes that end a message.
+-- Each law goes by the tests of `kindOf` in their order.
+use mathlib.Core.Path.{_≡_, refl}
+use mathlib.Core.Bool.{Bool, true, false, cond}
+use mathlib.Core.List.{List, [], _∷_}
+use Prim.Native.Nat.{ℕ, suc, _≤_, _<_}
+use native.Mathlib.Omega.{arith}
+use lib.Dec.{eqb, ltb}
+use lib.ListN.{length, drop}
+use borrow.Author.Tests.{ne-eqb, lt-ltb, le-ltb, eqb-true, eqb-false, ltb-true, ltb-false}
+use Rattle.frames.specs.Bytes.{Kind, dataByte, exclusive, endOfExclusive, otherStatus, realTime, kindOf, ends, body}
+
+-- The bytes of a kind.
+abbrev pub Lies : Kind → ℕ → Type 0
+Lies dataByte b = b < 0x80
+Lies exclusive b = b ≡ 0xF0
+Lies endOfExclusive b = b ≡ 0xF7
+Lies otherStatus b = (0x80 ≤ b) × (b ≤ 0xF7) × (b ≡ 0xF0 → ⊥) × (b ≡ 0xF7 → ⊥)
+Lies realTime b = 0xF7 < b
+
+-- A byte that lies among those of a kind is of that kind.
+pub kind-is : (k : Kind) (b : ℕ) → Lies k b → kindOf b ≡ k
+unfolding kindOf
+kind-is dataByte b h = rw (lt-ltb b 0x80 h)
+kind-is exclusive b e = rw e
+kind-is endOfExclusive b e = rw e
+kind-is otherStatus b h = rw (le-ltb b 0x80 (h .0), ne-eqb b 0xF0 (h .2), ne-eqb b 0xF7 (h .3), lt-ltb b 0xF8 (omega arith))
+kind-is realTime b h = rw (le-ltb b 0x80 (omega arith), ne-eqb b 0xF0 (λ e. omega arith), ne-eqb b 0xF7 (λ e. omega arith), le-ltb b 0xF8 h)
+
+-- Each byte lies among those of its kind.
+pub lies : (b : ℕ) → Lies (kindOf b) b
+unfolding kindOf
+lies b = go (ltb b 0x80) (eqb b 0xF0) (eqb b 0xF7) (ltb b 0xF8) refl refl refl refl
+  where
+    go : (t u v w : Bool) → ltb b 0x80 ≡ t → eqb b 0xF0 ≡ u → eqb b 0xF7 ≡ v → ltb b 0xF8 ≡ w
+        → Lies (cond t dataByte (cond u exclusive (cond v endOfExclusive (cond w otherStatus realTime)))) b
+    go true u v w q₁ q₂ q₃ q₄ = ltb-true b 0x80 q₁
+    go false true v w q₁ q₂ q₃ q₄ = eqb-true b 0xF0 q₂
+    go false false true w q₁ q₂ q₃ q₄ = eqb-true b 0xF7 q₃
+    go false false false true q₁ q₂ q₃ q₄ =
+        let h = ltb-true b 0xF8 q₄ in (ltb-false b 0x80 q₁, omega arith, eqb-false b 0xF0 q₂, eqb-false b 0xF7 q₃)
+    go false false false false q₁ q₂ q₃ q₄ = ltb-false b 0xF8 q₄
+
+-- A byte of a known kind lies among those of that kind.
+pub lies-in : (k : Kind) (b : ℕ) → kindOf b ≡ k → Lies k b
+lies-in k b e = rw e at (lies b)
+
+-- A byte below F8H is not real time.
+pub not-real-time : (y : ℕ) → y < 0xF8 → kindOf y ≡ realTime → ⊥
+not-real-time y h e = let l = lies-in realTime y e in omega arith
+
+-- What a byte that ends a message can be.
+pub data Ending (x : ℕ) : Type 0 where
+  closing : x ≡ 0xF7 → Ending x
+  starting : x ≡ 0xF0 → Ending x
+  breaking : kindOf x ≡ otherStatus → Ending x
+
+-- A byte that ends a message is F7H, F0H or another status byte.
+pub ending : (x : ℕ) → ends (kindOf x) ≡ true → Ending x
+ending x e = go (kindOf x) refl e
+  where
+    go : (k : Kind) → kindOf x ≡ k → ends k ≡ true → Ending x
+    go dataByte q e = let z : _≡_ {A = ℕ} 0 1 = cc in absurd (omega arith)
+    go exclusive q e = starting (lies-in exclusive x q)
+    go endOfExclusive q e = closing (lies-in endOfExclusive x q)
+    go otherStatus q e = breaking q
+    go realTime q e = let z : _≡_ {A = ℕ} 0 1 = cc in absurd (omega arith)
+
+-- The body goes on over a byte that does not end the message.
+pub body-on : (b : ℕ) (s : List ℕ) → ends (kindOf b) ≡ false → body (b ∷ s) ≡ b ∷ body s
+unfolding body
+body-on b s e = rw e
+
+-- The body stops before a byte that ends the message.
+pub body-stop : (b : ℕ) (s : List ℕ) → ends (kindOf b) ≡ true → body (b ∷ s) ≡ []
+unfolding body
+body-stop b s e = rw e
+
+-- The byte behind a body ends the message.
+pub behind-body : (t : List ℕ) (x : ℕ) (r : List ℕ) → drop (length (body t)) t ≡ x ∷ r → ends (kindOf x) ≡ true
+unfolding body
+behind-body [] x r e = cc
+behind-body (b ∷ t) x r e = go (ends (kindOf b)) refl e (behind-body t x r)
+  where
+    go : (v : Bool) → ends (kindOf b) ≡ v → drop (length (cond v [] (b ∷ body t))) (b ∷ t) ≡ x ∷ r
+        → (drop (length (body t)) t ≡ x ∷ r → ends (kindOf x) ≡ true) → ends (kindOf x) ≡ true
+    go true q e i = cc
+    go false q e i = i e
+
+-- The body is no longer than the bytes.
+pub body-within : (t : List ℕ) → length (body t) ≤ length t
+unfolding body
+body-within [] = omega arith
+body-within (b ∷ t) = go (ends (kindOf b)) (body-within t)
+  where
+    go : (v : Bool) → length (body t) ≤ length t → length (cond v [] (b ∷ body t)) ≤ suc (length t)
+    go true i = omega arith
+    go false i = omega arith

@@ -1,0 +1,131 @@
+-- Laws of the scan, whatever a complete message comes to: it splits at any place, F0H leaves every state alike, and all places can be moved.
+-- Each goes by the bytes in their order; a byte is looked at only by its kind.
+use mathlib.Core.Path.{_≡_, refl, _∙_}
+use mathlib.Core.Bool.{cond}
+use mathlib.Core.List.{List, [], _∷_, _++_, map, append-assoc, append-nil}
+use Prim.Native.Nat.{ℕ, suc, _+_}
+use native.Mathlib.Nat.{add-suc, add-zero}
+use native.Mathlib.Omega.{arith}
+use lib.Dec.{eqb}
+use lib.ListN.{length}
+use lib.Seq.{append-snoc}
+use borrow.Author.Tests.{eq-eqb, ne-eqb}
+use Rattle.answers.specs.Lists.{All}
+use Rattle.answers.specs.Table.{Verdict}
+use Rattle.frames.specs.Bytes.{Kind, dataByte, exclusive, endOfExclusive, otherStatus, realTime, kindOf}
+use Rattle.frames.specs.Stream.{Report, report}
+use Rattle.frames.specs.Scan.{State, outside, inside, next, emit, scan}
+use Rattle.frames.proofs.Bytes.{Lies, lies, kind-is}
+
+-- One place further, and n after it.
+pub further : (p n : ℕ) → p + suc n ≡ suc p + n
+further p n = omega arith
+
+-- The state behind the bytes s, the first of which stands at place p.
+abbrev pub after : ℕ → State → List ℕ → State
+after p st [] = st
+after p st (b ∷ s) = after (suc p) (next (kindOf b) b p st) s
+
+-- A byte of 00H..7FH.
+abbrev pub DataByte : ℕ → Type 0
+DataByte b = kindOf b ≡ dataByte
+
+-- Outside a message a byte counts only by being F0H or not.
+pub next-outside : (b p : ℕ) → next (kindOf b) b p outside ≡ cond (eqb b 0xF0) (inside p []) outside
+next-outside b p = go (kindOf b) (lies b)
+  where
+    go : (k : Kind) → Lies k b → next k b p outside ≡ cond (eqb b 0xF0) (inside p []) outside
+    go dataByte h = rw (ne-eqb b 0xF0 (λ e. omega arith))
+    go exclusive h = rw (eq-eqb b 0xF0 h)
+    go endOfExclusive h = rw (ne-eqb b 0xF0 (λ e. omega arith))
+    go otherStatus h = rw (ne-eqb b 0xF0 (h .2))
+    go realTime h = rw (ne-eqb b 0xF0 (λ e. omega arith))
+
+-- F0H leaves every state inside a message that starts there.
+pub next-exclusive : (b p : ℕ) (st : State) → next exclusive b p st ≡ inside p []
+next-exclusive b p outside = refl
+next-exclusive b p (inside f c) = refl
+
+-- A report k places further on, and a state.
+abbrev pub move : ℕ → Report → Report
+move k r = report (k + r .start) (k + r .end) (r .verdict)
+
+abbrev pub moved : ℕ → State → State
+moved k outside = outside
+moved k (inside f c) = inside (k + f) c
+
+next-moved : (k : ℕ) (q : Kind) (b p : ℕ) (st : State) → moved k (next q b p st) ≡ next q b (k + p) (moved k st)
+next-moved k dataByte b p outside = refl
+next-moved k exclusive b p outside = refl
+next-moved k endOfExclusive b p outside = refl
+next-moved k otherStatus b p outside = refl
+next-moved k realTime b p outside = refl
+next-moved k dataByte b p (inside f c) = refl
+next-moved k exclusive b p (inside f c) = refl
+next-moved k endOfExclusive b p (inside f c) = refl
+next-moved k otherStatus b p (inside f c) = refl
+next-moved k realTime b p (inside f c) = refl
+
+map-append : (k : ℕ) (a b : List Report) → map (move k) (a ++ b) ≡ map (move k) a ++ map (move k) b
+map-append k [] b = refl
+map-append k (x ∷ a) b = rw (map-append k a b)
+
+module _ (judge : List ℕ → Verdict) where
+  -- The reports that the bytes s complete.
+  abbrev pub emitted : ℕ → State → List ℕ → List Report
+  emitted p st [] = []
+  emitted p st (b ∷ s) = emit judge (kindOf b) p st ++ emitted (suc p) (next (kindOf b) b p st) s
+
+  -- The scan splits at any place.
+  pub scan-split : (xs : List ℕ) (p : ℕ) (st : State) (ys : List ℕ)
+      → scan judge p st (xs ++ ys) ≡ emitted p st xs ++ scan judge (p + length xs) (after p st xs) ys
+  scan-split [] p st ys = rw (add-zero p)
+  scan-split (x ∷ xs) p st ys = rw (further p (length xs), scan-split xs (suc p) (next (kindOf x) x p st) ys) (rw append-assoc)
+
+  -- The reports that the bytes xs complete where F0H comes next.
+  abbrev pub ahead : ℕ → State → List ℕ → List Report
+  ahead p st xs = emitted p st xs ++ emit judge exclusive (p + length xs) (after p st xs)
+
+  -- Whatever stands before an F0H, the scan goes on inside the message that starts there.
+  pub scan-exclusive : (xs : List ℕ) (p : ℕ) (st : State) (ys : List ℕ)
+      → scan judge p st (xs ++ 0xF0 ∷ ys) ≡ ahead p st xs ++ scan judge (suc (p + length xs)) (inside (p + length xs) []) ys
+  scan-exclusive xs p st ys =
+      rw (scan-split xs p st (0xF0 ∷ ys), kind-is exclusive 0xF0 refl, next-exclusive 0xF0 (p + length xs) (after p st xs)) (rw append-assoc)
+
+  -- Outside a message, F0H starts one and any other byte is skipped.
+  pub scan-outside : (p b : ℕ) (s : List ℕ) → scan judge p outside (b ∷ s) ≡ scan judge (suc p) (cond (eqb b 0xF0) (inside p []) outside) s
+  scan-outside p b s = rw (next-outside b p)
+
+  -- Data bytes inside a message belong to it.
+  pub scan-data : (u : List ℕ) → All DataByte u → (p f : ℕ) (c s : List ℕ)
+      → scan judge p (inside f c) (u ++ s) ≡ scan judge (p + length u) (inside f (c ++ u)) s
+  scan-data [] a p f c s = rw (append-nil, add-zero p)
+  scan-data (b ∷ u) a p f c s =
+      rw (a .0, further p (length u)) (scan-data u (a .1) (suc p) f (c ++ (b ∷ [])) s ∙ rw (append-snoc c b u))
+
+  -- Data bytes outside a message are skipped.
+  pub skip-data : (u : List ℕ) → All DataByte u → (p : ℕ) (s : List ℕ)
+      → scan judge p outside (u ++ s) ≡ scan judge (p + length u) outside s
+  skip-data [] a p s = rw (add-zero p)
+  skip-data (b ∷ u) a p s = rw (a .0, further p (length u)) (skip-data u (a .1) (suc p) s)
+
+  emit-moved : (k : ℕ) (q : Kind) (p : ℕ) (st : State) → map (move k) (emit judge q p st) ≡ emit judge q (k + p) (moved k st)
+  emit-moved k q p outside = refl
+  emit-moved k dataByte p (inside f c) = refl
+  emit-moved k exclusive p (inside f c) = refl
+  emit-moved k endOfExclusive p (inside f c) = rw (add-suc k p)
+  emit-moved k otherStatus p (inside f c) = refl
+  emit-moved k realTime p (inside f c) = refl
+
+  -- The scan of the same bytes k places further on.
+  pub scan-moved : (s : List ℕ) (k p : ℕ) (st : State) → map (move k) (scan judge p st s) ≡ scan judge (k + p) (moved k st) s
+  scan-moved [] k p outside = refl
+  scan-moved [] k p (inside f c) = refl
+  scan-moved (b ∷ s) k p st =
+      rw (
+        map-append k (emit judge (kindOf b) p st) (scan judge (suc p) (next (kindOf b) b p st) s),
+        emit-moved k (kindOf b) p st,
+        scan-moved s k (suc p) (next (kindOf b) b p st),
+        add-suc k p,
+        next-moved k (kindOf b) b p st,
+      )

@@ -1,0 +1,32 @@
+-- Where a message starts among bytes and how far it runs, as counts.
+use mathlib.Core.Path.{_≡_}
+use mathlib.Core.Bool.{Bool, true, false, cond}
+use mathlib.Core.List.{List, [], _∷_, _++_}
+use Prim.Native.Nat.{ℕ, suc, _+_}
+use lib.Dec.{eqb}
+use lib.ListN.{length, take, drop}
+use Rattle.frames.specs.Bytes.{body, realTimeIn}
+use Rattle.frames.specs.declared.Span.{Span}
+
+-- How many bytes stand before the first F0H.
+unfoldable pub ahead : List ℕ → ℕ
+ahead [] = 0
+ahead (b ∷ s) = cond (eqb b 0xF0) 0 (suc (ahead s))
+
+-- How a message ends, by what stands behind its body: complete (0), interrupted (3) or cut (2).
+abbrev pub endingOf : List ℕ → ℕ
+endingOf [] = 2
+endingOf (x ∷ r) = cond (eqb x 0xF7) 0 3
+
+-- How many bytes a message has behind its F0H before the first byte in 80H..F7H, how many of them are real time, and how it ends.
+unfoldable pub spanOf : List ℕ → Span
+spanOf t = record { length = length (body t); noise = realTimeIn (body t); ending = endingOf (drop (length (body t)) t) }
+
+-- The bytes w stand at the start of a lent buffer, as many as fit, and n is how many they are.
+pub record Kept (w old new : List ℕ) (n : ℕ) : Type 0 where
+  pub count : n ≡ length w
+  pub bytes : new ≡ take (length old) w ++ drop (length w) old
+
+-- Where the first F0H at place p or later stands; the input's length, or p past it, where there is none.
+unfoldable pub startFrom : List ℕ → ℕ → ℕ
+startFrom s p = p + ahead (drop p s)

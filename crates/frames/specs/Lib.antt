@@ -1,0 +1,5 @@
+pub mod Bytes
+pub mod Stream
+pub mod Scan
+pub mod Order
+pub mod Extent

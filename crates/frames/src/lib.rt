@@ -1,0 +1,105 @@
+// Finding system exclusive messages in a stream of bytes: where one starts, how far it runs, its bytes without real time.
+// Below it: answers.
+use answers::CUT;
+use answers::DONE;
+use answers::INTERRUPTED;
+ghost use mathlib.Core.Path.{_≡_};
+ghost use mathlib.Core.Bool.{cond};
+ghost use lib.Dec.{eqb};
+ghost use mathlib.Core.List.{_++_};
+ghost use Prim.Native.Nat.{ℕ, _+_, _<_, _≤_};
+ghost use lib.ListN.{length, take, drop};
+ghost use Rattle.frames.specs.Bytes.{withoutRealTime};
+ghost use Rattle.frames.specs.Extent.{ahead, startFrom, spanOf, Kept};
+
+// What stands behind an F0H: how many bytes before the first in 80H..F7H, how many of them are real time,
+// and the answer that their end gives: DONE for F7H, INTERRUPTED or CUT.
+pub struct Span {
+    pub length: usize,
+    pub noise: usize,
+    pub ending: u8,
+}
+
+// How many bytes stand before the first F0H; all of them where there is none.
+pub fn find_start(rest: &[u8]) -> usize
+    ensures { λ r. ⌜ r ≡ ahead (now (rest .entry)) ⌝ }
+{
+    let mut i: usize = 0;
+    while i < rest.len() {
+        if rest[i] == 0xF0 {
+            return i;
+        }
+        i += 1;
+    }
+    i
+}
+
+// Where the first F0H at a place or later stands; no place of the input where there is none.
+pub fn find_start_from(s: &[u8], place: usize) -> usize
+    ensures { λ r. ⌜ r ≡ startFrom (now (s .entry)) place ⌝ }
+{
+    if s.len() <= place {
+        return place;
+    }
+    place + find_start(&s[place..])
+}
+
+// The answer that a byte in 80H..F7H gives the message that it ends.
+fn ending(b: u8) -> u8
+    ensures { λ r. ⌜ r ≡ cond (eqb b 0xF7) 0 3 ⌝ }
+{
+    if b == 0xF7 {
+        return DONE;
+    }
+    INTERRUPTED
+}
+
+// How far a message runs, from the bytes behind its F0H.
+pub fn find_end(rest: &[u8]) -> Span
+    ensures { λ r. ⌜ r ≡ spanOf (now (rest .entry)) ⌝ }
+{
+    let mut i: usize = 0;
+    let mut noise: usize = 0;
+    while i < rest.len() {
+        let b = rest[i];
+        if b < 0x80 {
+            i += 1;
+        } else if 0xF7 < b {
+            noise += 1;
+            i += 1;
+        } else {
+            return Span {
+                length: i,
+                noise,
+                ending: ending(b),
+            };
+        }
+    }
+    Span {
+        length: i,
+        noise,
+        ending: CUT,
+    }
+}
+
+// The bytes that are not real time, at the start of `out`, as many as fit; and how many they are.
+pub fn drop_real_time(bytes: &[u8], out: &mut [u8]) -> usize
+    ensures { λ r. ⌜ Kept (withoutRealTime (now (bytes .entry))) (now (out .entry)) (now (out .exit)) r ⌝ }
+{
+    let mut n: usize = 0;
+    let mut i: usize = 0;
+    while i < bytes.len() {
+        let b = bytes[i];
+        if 0xF7 < b {
+            i += 1;
+        } else if n < out.len() {
+            out[n] = b;
+            n += 1;
+            i += 1;
+        } else {
+            n += 1;
+            i += 1;
+        }
+    }
+    n
+}

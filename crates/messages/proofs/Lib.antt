@@ -1,0 +1,9 @@
+pub mod Data
+pub mod Content
+pub mod Verdicts
+pub mod Long
+pub mod Numbers
+pub mod DumpLaws
+pub mod Replaced
+pub mod Master
+pub mod Accepted

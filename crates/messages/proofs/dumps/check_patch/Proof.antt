@@ -1,0 +1,31 @@
+-- `check_patch` tests the data and the sum, then the fields of the packed bytes.
+use mathlib.Core.Path.{_∙_}
+use native.Mathlib.Omega.{arith}
+use borrow.Author.Needs.{needs}
+use Rattle.messages.proofs.Data.{patch-stopped, patch-fields}
+use Rattle.messages.proofs.dumps.check_patch.Statement.{statement}
+use Rattle.messages.proofs.dumps.check_patch.Tie as tie
+
+returns : tie.Need-returns
+returns c =
+    let at = c .before .before .before in
+    let start = at .before .before .before in
+    c .refused .ensures ∙ patch-stopped (start .args .sent .now) (start .args .sum) (at .check-data .last .1 .1 .0) (at .check-data .result) (at .check-data .ensures) (c .before .if1 .taken)
+
+returns-2 : tie.Need-returns-2
+returns-2 c =
+    let at = c .before .before .before .before in
+    let start = at .before .before .before in
+    c .test-fields .ensures ∙ patch-fields (start .args .sent .now) (start .args .sum) (at .check-data .last .1 .1 .0) (at .check-data .result) (at .check-data .ensures) (c .before .before .if1 .left)
+
+pub check-patch-spec : {M : Type 1} → statement M
+check-patch-spec =
+    tie.close
+    (tie.spec
+    (λ c. search needs)
+    (λ c κs. search needs)
+    (λ c κs. search needs)
+    returns
+    (λ c. search needs)
+    (λ c κs. search needs)
+    returns-2)

@@ -1,0 +1,338 @@
+-- Nibbles and packing are inverse to each other, the first wide byte is the first, and which changes of one byte a sum can miss.
+-- Each law goes by the list's elements; what is left of a byte, its two nibbles and the sums is linear arithmetic.
+use mathlib.Core.Path.{_≡_, refl, sym, ap, _∙_}
+use mathlib.Core.Bool.{Bool, true, false, cond}
+use mathlib.Core.List.{List, [], _∷_, _++_, append-assoc, append-nil, tail-eq-of-cons-eq, nil≢cons}
+use mathlib.Core.Logic.{_↔_, _⊎_, inl, inr}
+use mathlib.Core.Option.{Option, none, some}
+use Prim.Native.Nat.{ℕ, zero, suc, _+_, _*_, _/_, _%_, _≤_, _<_}
+use native.Mathlib.Nat.{le-of-suc-le-suc}
+use native.Mathlib.Numerals.{add-one}
+use native.Mathlib.Omega.{arith}
+use lib.Dec.{ltb}
+use lib.ListN.{length, take, drop, getD, length-drop, take-append-drop, drop-of-length-le}
+use lib.Seq.{drop-cons, take-suc, length-take-le}
+use borrow.Author.Tests.{ltb-true, ltb-false, lt-ltb, le-ltb, eq-eqb, ne-eqb}
+use Rattle.answers.specs.Lists.{All}
+use Rattle.answers.specs.Effect.{outcome}
+use Rattle.nibbles.specs.Nibbles.{nibbles, pack, total, sum, wideFrom, firstWide, packing, unpacking}
+use Rattle.nibbles.specs.Wide.{foundWide}
+use Rattle.nibbles.specs.declared.Wide.the-variants.{At, Nowhere}
+
+-- Nibbles and packing.
+
+-- The nibbles of bytes are the nibbles of the first ones, then of the others.
+pub nibbles-append : (p q : List ℕ) → nibbles (p ++ q) ≡ nibbles p ++ nibbles q
+unfolding nibbles
+nibbles-append [] q = refl
+nibbles-append (b ∷ p) q = rw (nibbles-append p q)
+
+-- There are two nibbles to a byte.
+pub length-nibbles : (p : List ℕ) → length (nibbles p) ≡ 2 * length p
+unfolding nibbles
+length-nibbles [] = refl
+length-nibbles (b ∷ p) = omega (arith, length-nibbles p)
+
+-- There is a byte to two nibbles; one left over is none.
+pub length-pack : (ns : List ℕ) → length (pack ns) ≡ length ns / 2
+unfolding pack
+length-pack [] = refl
+length-pack (low ∷ []) = refl
+length-pack (low ∷ high ∷ ns) = omega (arith, length-pack ns)
+
+byte-back : (b : ℕ) → b % 16 + 16 * (b / 16) ≡ b
+byte-back b = omega arith
+
+-- Packing the nibbles of bytes, and what follows them, gives those bytes first.
+pub pack-after-nibbles : (p r : List ℕ) → pack (nibbles p ++ r) ≡ p ++ pack r
+unfolding nibbles pack
+pack-after-nibbles [] r = refl
+pack-after-nibbles (b ∷ p) r = rw (pack-after-nibbles p r, byte-back b)
+
+-- Packing the nibbles of any bytes gives the bytes.
+pub pack-nibbles : (p : List ℕ) → pack (nibbles p) ≡ p
+unfolding nibbles pack
+pack-nibbles [] = refl
+pack-nibbles (b ∷ p) = rw (pack-nibbles p, byte-back b)
+
+-- The nibbles of packed nibbles are those nibbles, where their number is even.
+pub nibbles-pack : (ns : List ℕ) → length ns % 2 ≡ 0 → All (λ b. b < 16) ns → nibbles (pack ns) ≡ ns
+unfolding nibbles pack
+nibbles-pack [] e a = refl
+nibbles-pack (low ∷ []) e a = absurd (omega arith)
+nibbles-pack (low ∷ high ∷ ns) e a =
+    let h = a .0 in
+    let low-back : (low + 16 * high) % 16 ≡ low = omega arith in
+    let high-back : (low + 16 * high) / 16 ≡ high = omega arith in
+    rw (low-back, high-back, nibbles-pack ns (omega arith) (a .1 .1))
+
+-- The nibbles of bytes below 256 are below 16.
+pub nibbles-narrow : (p : List ℕ) → All (λ b. b < 256) p → All (λ b. b < 16) (nibbles p)
+unfolding nibbles
+nibbles-narrow [] a = tt
+nibbles-narrow (b ∷ p) a = let h = a .0 in (omega arith, (omega arith, nibbles-narrow p (a .1)))
+
+-- Nibbles below 16 pack to bytes below 256.
+pub pack-bytes : (ns : List ℕ) → All (λ b. b < 16) ns → All (λ b. b < 256) (pack ns)
+unfolding pack
+pack-bytes [] a = tt
+pack-bytes (low ∷ []) a = tt
+pack-bytes (low ∷ high ∷ ns) a = let h = a .0 in let k = a .1 .0 in (omega arith, pack-bytes ns (a .1 .1))
+
+-- The first wide byte.
+
+-- At a wide byte its index is the answer.
+pub wide-here : (i b : ℕ) (bs : List ℕ) → 15 < b → wideFrom i (b ∷ bs) ≡ some i
+unfolding wideFrom
+wide-here i b bs h = rw (lt-ltb 15 b h)
+
+-- A byte that is not wide is passed.
+pub wide-next : (i b : ℕ) (bs : List ℕ) → b ≤ 15 → wideFrom i (b ∷ bs) ≡ wideFrom (suc i) bs
+unfolding wideFrom
+wide-next i b bs h = rw (le-ltb 15 b h)
+
+-- Where all bytes are below 16, none is wide.
+pub not-wide : (i : ℕ) (ns : List ℕ) → All (λ b. b < 16) ns → wideFrom i ns ≡ none
+unfolding wideFrom
+not-wide i [] a = refl
+not-wide i (b ∷ ns) a = wide-next i b ns (le-of-suc-le-suc (a .0)) ∙ not-wide (suc i) ns (a .1)
+
+-- Where none is wide, all are below 16.
+pub wide-none : (i : ℕ) (ns : List ℕ) → wideFrom i ns ≡ none → All (λ b. b < 16) ns
+unfolding wideFrom
+wide-none i [] e = tt
+wide-none i (b ∷ ns) e = by (ltb 15 b) refl e (wide-none (suc i) ns)
+  where
+    by : (t : Bool) → ltb 15 b ≡ t → cond t (some i) (wideFrom (suc i) ns) ≡ none → (wideFrom (suc i) ns ≡ none → All (λ b. b < 16) ns)
+        → All (λ b. b < 16) (b ∷ ns)
+    by true q e rest = let z : _≡_ {A = ℕ} 0 1 = cc in absurd (omega arith)
+    by false q e rest = (omega (arith, ltb-false 15 b q), rest e)
+
+-- No byte is wide exactly when all are below 16.
+pub none-wide-exactly : (ns : List ℕ) → (firstWide ns ≡ none) ↔ All (λ b. b < 16) ns
+none-wide-exactly ns = (wide-none _ ns, not-wide _ ns)
+
+-- A wide byte stands at i, and none before it.
+pub record FirstWideAt (ns : List ℕ) (i : ℕ) : Type 0 where
+  pub within : i < length ns
+  pub wide : 15 < getD ns i 0
+  pub narrow-before : All (λ b. b < 16) (take i ns)
+
+abbrev Found : ℕ → List ℕ → ℕ → Type 0
+Found k ns i = (j : ℕ) × (i ≡ k + j) × FirstWideAt ns j
+
+found : (k : ℕ) (ns : List ℕ) (i : ℕ) → wideFrom k ns ≡ some i → Found k ns i
+unfolding wideFrom
+found k [] i e = let z : _≡_ {A = ℕ} 0 1 = cc in absurd (omega arith)
+found k (b ∷ ns) i e = by (ltb 15 b) refl e (found (suc k) ns i)
+  where
+    by : (t : Bool) → ltb 15 b ≡ t → cond t (some k) (wideFrom (suc k) ns) ≡ some i → (wideFrom (suc k) ns ≡ some i → Found (suc k) ns i)
+        → Found k (b ∷ ns) i
+    by true q e rest =
+        let same : k ≡ i = cc in
+        (0, omega arith, record { within = omega arith; wide = ltb-true 15 b q; narrow-before = tt })
+    by false q e rest =
+        let (j, at, f) = rest e in
+        let w = f .within in
+        (suc j, omega arith, record { within = omega arith; wide = f .wide; narrow-before = (omega (arith, ltb-false 15 b q), f .narrow-before) })
+
+finds : (k : ℕ) (ns : List ℕ) (j : ℕ) → FirstWideAt ns j → wideFrom k ns ≡ some (k + j)
+finds k [] j f = let w = f .within in absurd (omega arith)
+finds k (b ∷ ns) zero f =
+    let none-added : k ≡ k + 0 = omega arith in
+    wide-here k b ns (f .wide) ∙ ap some none-added
+finds k (b ∷ ns) (suc j) f =
+    let w = f .within in
+    let moved : suc k + j ≡ k + suc j = omega arith in
+    wide-next k b ns (le-of-suc-le-suc (f .narrow-before .0))
+    ∙ finds (suc k) ns j (record { within = le-of-suc-le-suc w; wide = f .wide; narrow-before = f .narrow-before .1 })
+    ∙ ap some moved
+
+-- The answer is i exactly when a wide byte stands at i and none before it.
+pub first-wide-exactly : (ns : List ℕ) (i : ℕ) → (firstWide ns ≡ some i) ↔ FirstWideAt ns i
+first-wide-exactly ns i = (at-first, λ f. finds 0 ns i f ∙ ap some (omega arith))
+  where
+    at-first : firstWide ns ≡ some i → FirstWideAt ns i
+    at-first e =
+        let (j, at, f) = found 0 ns i e in
+        let same : i ≡ j = omega arith in
+        rw same f
+
+-- An answer of the code, `At i` or `Nowhere`, says what the definition says.
+pub found-at : (o : Option ℕ) (i : ℕ) → foundWide o ≡ At i → o ≡ some i
+found-at (some j) i e = cc
+found-at none i e = cc
+
+pub found-nowhere : (o : Option ℕ) → foundWide o ≡ Nowhere → o ≡ none
+found-nowhere (some j) e = cc
+found-nowhere none e = refl
+
+-- The sum.
+
+-- The total of bytes is that of the first ones and that of the others.
+pub total-append : (p q : List ℕ) → total (p ++ q) ≡ total p + total q
+unfolding total
+total-append [] q = omega arith
+total-append (b ∷ p) q = omega (arith, total-append p q)
+
+-- The sum is a data byte.
+pub sum-below : (p : List ℕ) → sum p < 128
+unfolding sum
+sum-below p = omega arith
+
+-- The sum of packed bytes around one of them.
+pub sum-around : (p₁ : List ℕ) (b : ℕ) (p₂ : List ℕ) → sum (p₁ ++ b ∷ p₂) ≡ (total p₁ + (b + total p₂)) % 128
+unfolding sum total
+sum-around p₁ b p₂ = ap (λ (n : ℕ). n % 128) (total-append p₁ (b ∷ p₂))
+
+-- A low nibble that is replaced by another changes the sum.
+pub low-moves : (a c b y : ℕ) → y < 16 → (y ≡ b % 16 → ⊥) → (a + (b + c)) % 128 ≡ (a + ((y + 16 * (b / 16)) + c)) % 128 → ⊥
+low-moves a c b y h n e = omega arith
+
+-- A high nibble that is replaced by another leaves the sum only where the byte moved by 128.
+pub high-moves : (a c b y : ℕ) → b < 256 → y < 16 → (y ≡ b / 16 → ⊥) → (a + (b + c)) % 128 ≡ (a + ((b % 16 + 16 * y) + c)) % 128
+    → (b % 16 + 16 * y ≡ b + 128) ⊎ (b ≡ b % 16 + 16 * y + 128)
+high-moves a c b y s h n e = by (ltb y (b / 16)) refl
+  where
+    by : (t : Bool) → ltb y (b / 16) ≡ t → (b % 16 + 16 * y ≡ b + 128) ⊎ (b ≡ b % 16 + 16 * y + 128)
+    by true q = let less = ltb-true y (b / 16) q in inr (omega arith)
+    by false q = let more = ltb-false y (b / 16) q in inl (omega arith)
+
+-- Packed bytes in which one low nibble differs have another sum.
+pub low-changes-sum : (p₁ p₂ : List ℕ) (b y : ℕ) → y < 16 → (y ≡ b % 16 → ⊥)
+    → sum (p₁ ++ b ∷ p₂) ≡ sum (p₁ ++ (y + 16 * (b / 16)) ∷ p₂) → ⊥
+low-changes-sum p₁ p₂ b y h n e =
+    low-moves (total p₁) (total p₂) b y h n (sym (sum-around p₁ b p₂) ∙ e ∙ sum-around p₁ (y + 16 * (b / 16)) p₂)
+
+-- Packed bytes in which one high nibble differs have the same sum only where that byte moved by 128.
+pub high-changes-sum : (p₁ p₂ : List ℕ) (b y : ℕ) → b < 256 → y < 16 → (y ≡ b / 16 → ⊥)
+    → sum (p₁ ++ b ∷ p₂) ≡ sum (p₁ ++ (b % 16 + 16 * y) ∷ p₂)
+    → (b % 16 + 16 * y ≡ b + 128) ⊎ (b ≡ b % 16 + 16 * y + 128)
+high-changes-sum p₁ p₂ b y s h n e =
+    high-moves (total p₁) (total p₂) b y s h n (sym (sum-around p₁ b p₂) ∙ e ∙ sum-around p₁ (b % 16 + 16 * y) p₂)
+
+-- Places in nibbles with their sum.
+
+-- The packed bytes where one low nibble is y.
+pub pack-low : (p₁ p₂ : List ℕ) (b y : ℕ) → pack (nibbles p₁ ++ (y ∷ (b / 16) ∷ nibbles p₂)) ≡ p₁ ++ (y + 16 * (b / 16)) ∷ p₂
+unfolding pack
+pack-low p₁ p₂ b y = rw (pack-after-nibbles p₁ (y ∷ (b / 16) ∷ nibbles p₂), pack-nibbles p₂)
+
+-- The packed bytes where one high nibble is y.
+pub pack-high : (p₁ p₂ : List ℕ) (b y : ℕ) → pack (nibbles p₁ ++ ((b % 16) ∷ y ∷ nibbles p₂)) ≡ p₁ ++ (b % 16 + 16 * y) ∷ p₂
+unfolding pack
+pack-high p₁ p₂ b y = rw (pack-after-nibbles p₁ ((b % 16) ∷ y ∷ nibbles p₂), pack-nibbles p₂)
+
+-- A byte x, with u before it and v behind it, in the nibbles of p and then s: the low or the high nibble of a byte of p, or s.
+pub data Position (p : List ℕ) (s : ℕ) (u : List ℕ) (x : ℕ) (v : List ℕ) : Type 0 where
+  at-low : (p₁ : List ℕ) (b : ℕ) (p₂ : List ℕ) → p ≡ p₁ ++ b ∷ p₂
+      → u ≡ nibbles p₁ → x ≡ b % 16 → v ≡ (b / 16) ∷ (nibbles p₂ ++ (s ∷ [])) → Position p s u x v
+  at-high : (p₁ : List ℕ) (b : ℕ) (p₂ : List ℕ) → p ≡ p₁ ++ b ∷ p₂
+      → u ≡ nibbles p₁ ++ ((b % 16) ∷ []) → x ≡ b / 16 → v ≡ nibbles p₂ ++ (s ∷ []) → Position p s u x v
+  at-sum : u ≡ nibbles p → x ≡ s → v ≡ [] → Position p s u x v
+
+no-tail : (u : List ℕ) (x : ℕ) (v : List ℕ) → u ++ x ∷ v ≡ [] → ⊥
+no-tail [] x v e = nil≢cons (sym e)
+no-tail (a ∷ u) x v e = nil≢cons (sym e)
+
+further : (b : ℕ) {p : List ℕ} {s : ℕ} {u : List ℕ} {x : ℕ} {v : List ℕ} (l h : ℕ)
+    → l ≡ b % 16 → h ≡ b / 16 → Position p s u x v → Position (b ∷ p) s (l ∷ h ∷ u) x v
+unfolding nibbles
+further b l h el eh (at-low p₁ c p₂ e₀ e₁ e₂ e₃) = at-low (b ∷ p₁) c p₂ (cc) (cc) e₂ e₃
+further b l h el eh (at-high p₁ c p₂ e₀ e₁ e₂ e₃) = at-high (b ∷ p₁) c p₂ (cc) (cc) e₂ e₃
+further b l h el eh (at-sum e₁ e₂ e₃) = at-sum (cc) e₂ e₃
+
+-- Every place in the nibbles and their sum is one of the three.
+pub position : (p : List ℕ) (s : ℕ) (u : List ℕ) (x : ℕ) (v : List ℕ) → u ++ x ∷ v ≡ nibbles p ++ (s ∷ []) → Position p s u x v
+unfolding nibbles
+position [] s [] x v e = at-sum refl (cc) (cc)
+position [] s (a ∷ u) x v e = absurd (no-tail u x v (tail-eq-of-cons-eq e))
+position (b ∷ p) s [] x v e = at-low [] b p refl refl (cc) (cc)
+position (b ∷ p) s (a ∷ []) x v e = at-high [] b p refl (cc) (cc) (cc)
+position (b ∷ p) s (a ∷ a′ ∷ u) x v e = further b a a′ (cc) (cc) (position p s u x v (cc))
+
+-- What packing and unpacking give, case by case.
+
+-- Nibbles that do not fit are refused by 13.
+pub unpacking-short : (bytes out : List ℕ) → length out < 2 * length bytes → unpacking bytes out ≡ record { result = outcome 13 0; lent = out }
+unfolding unpacking
+unpacking-short bytes out h = rw (length-nibbles bytes, lt-ltb (length out) (2 * length bytes) h)
+
+-- Nibbles that fit are written, and the bytes behind them kept.
+pub unpacking-done : (bytes out : List ℕ) → 2 * length bytes ≤ length out
+    → unpacking bytes out ≡ record { result = outcome 0 (2 * length bytes); lent = nibbles bytes ++ drop (2 * length bytes) out }
+unfolding unpacking
+unpacking-done bytes out h = rw (length-nibbles bytes, le-ltb (length out) (2 * length bytes) h)
+
+-- An odd number of nibbles is refused by 7.
+pub packing-odd : (ns out : List ℕ) → length ns % 2 ≡ 1 → packing ns out ≡ record { result = outcome 7 0; lent = out }
+unfolding packing
+packing-odd ns out odd = rw (eq-eqb (length ns % 2) 1 odd)
+
+-- Then a byte above 15 by 9, with its index.
+pub packing-wide : (ns out : List ℕ) (i : ℕ) → (length ns % 2 ≡ 1 → ⊥) → firstWide ns ≡ some i
+    → packing ns out ≡ record { result = outcome 9 i; lent = out }
+unfolding packing
+packing-wide ns out i even wide = rw (ne-eqb (length ns % 2) 1 even, wide)
+
+-- Then packed bytes that do not fit by 13.
+pub packing-short : (ns out : List ℕ) → (length ns % 2 ≡ 1 → ⊥) → firstWide ns ≡ none → length out < length ns / 2
+    → packing ns out ≡ record { result = outcome 13 0; lent = out }
+unfolding packing
+packing-short ns out even narrow h = rw (ne-eqb (length ns % 2) 1 even, narrow, length-pack ns, lt-ltb (length out) (length ns / 2) h)
+
+-- Packed bytes that fit are written, and the bytes behind them kept.
+pub packing-done : (ns out : List ℕ) → (length ns % 2 ≡ 1 → ⊥) → firstWide ns ≡ none → length ns / 2 ≤ length out
+    → packing ns out ≡ record { result = outcome 0 (length ns / 2); lent = pack ns ++ drop (length ns / 2) out }
+unfolding packing
+packing-done ns out even narrow h = rw (ne-eqb (length ns % 2) 1 even, narrow, length-pack ns, le-ltb (length out) (length ns / 2) h)
+
+-- What a loop over the bytes needs.
+
+-- The total from i on is the byte at i and the total behind it.
+pub total-drop : (s : List ℕ) (i : ℕ) → i < length s → total (drop i s) ≡ getD s i 0 + total (drop (i + 1) s)
+unfolding total
+total-drop s i h = rw (drop-cons s i 0 h) (simp add-one)
+
+-- Behind the last byte there is nothing to add.
+pub total-end : (s : List ℕ) (i : ℕ) → length s ≤ i → total (drop i s) ≡ 0
+unfolding total
+total-end s i h = rw (drop-of-length-le s h)
+
+-- One byte more gives two nibbles more.
+pub nibbles-take : (s : List ℕ) (i : ℕ) → i < length s
+    → nibbles (take (i + 1) s) ≡ (nibbles (take i s) ++ ((getD s i 0 % 16) ∷ [])) ++ ((getD s i 0 / 16) ∷ [])
+unfolding nibbles
+nibbles-take s i h = rw (add-one, take-suc s i 0 h, nibbles-append) (simp append-assoc)
+
+-- Packing goes on behind an even number of nibbles.
+pub pack-append : (u v : List ℕ) → length u % 2 ≡ 0 → pack (u ++ v) ≡ pack u ++ pack v
+unfolding pack
+pack-append [] v e = refl
+pack-append (low ∷ []) v e = absurd (omega arith)
+pack-append (low ∷ high ∷ u) v e = rw (pack-append u v (omega arith))
+
+pack-single : (s : List ℕ) → length s < 2 → pack s ≡ []
+unfolding pack
+pack-single [] h = refl
+pack-single (x ∷ []) h = refl
+pack-single (x ∷ y ∷ s) h = absurd (omega arith)
+
+-- Two nibbles more give one packed byte more.
+pub pack-take : (s : List ℕ) (i : ℕ) → 2 * i + 1 < length s
+    → pack (take (2 * (i + 1)) s) ≡ pack (take (2 * i) s) ++ ((getD s (2 * i) 0 + 16 * getD s (2 * i + 1) 0) ∷ [])
+unfolding pack
+pack-take s i h =
+    let twice : 2 * (i + 1) ≡ suc (suc (2 * i)) = omega arith in
+    let one : suc (2 * i) ≡ 2 * i + 1 = omega arith in
+    let even : length (take (2 * i) s) % 2 ≡ 0 = omega (arith, length-take-le (2 * i) s (omega arith)) in
+    rw (twice, take-suc s (suc (2 * i)) 0 (omega arith), take-suc s (2 * i) 0 (omega arith), one, append-assoc, pack-append (take (2 * i) s) _ even)
+
+-- The pairs are all that is packed.
+pub pack-whole : (s : List ℕ) → pack (take (2 * (length s / 2)) s) ≡ pack s
+pack-whole s =
+    let n = 2 * (length s / 2) in
+    let even : length (take n s) % 2 ≡ 0 = omega (arith, length-take-le n s (omega arith)) in
+    let rest : pack (drop n s) ≡ [] = pack-single (drop n s) (simp length-drop (omega arith)) in
+    let parts = pack-append (take n s) (drop n s) even in
+    sym (rw (take-append-drop n s, rest, append-nil) at parts)

@@ -1,0 +1,84 @@
+-- `put_packed` writes the packed bytes at the start of the output. The invariant: the output is the packed bytes of the pairs passed, then its
+-- old bytes. That no nibble is wide keeps each packed byte below 256.
+use mathlib.Core.Path.{_≡_, refl, _∙_}
+use mathlib.Core.List.{List, _++_}
+use Prim.Native.Nat.{ℕ, _+_, _-_, _*_, _/_, _≤_, _<_}
+use native.Mathlib.Omega.{arith}
+use lib.ListN.{length, getD, take, drop, set, length-set}
+use lib.Seq.{length-take-le}
+use Rattle.answers.proofs.Lists.{put-next, all-get}
+use Rattle.nibbles.specs.Nibbles.{pack}
+use Rattle.nibbles.proofs.Laws.{length-pack, pack-take, pack-whole, wide-none}
+use Rattle.nibbles.proofs.put_packed.Statement.{statement}
+use Rattle.nibbles.proofs.put_packed.Tie as tie
+
+abbrev Inv-loop : tie.InvT-loop
+Inv-loop sent out₀ n i₀ out i = (i ≤ n) × (length out ≡ length out₀) × (out ≡ pack (take (2 * i) sent) ++ drop i out₀)
+
+abbrev μ-loop : tie.MeasureT-loop
+μ-loop sent out₀ n i₀ out i = n - i
+
+-- One pair more.
+step : (s o₀ o : List ℕ) (i : ℕ) → i < length s / 2 → length s / 2 ≤ length o₀ → o ≡ pack (take (2 * i) s) ++ drop i o₀
+    → set o i (getD s (2 * i) 0 + 16 * getD s (2 * i + 1) 0) ≡ pack (take (2 * (i + 1)) s) ++ drop (i + 1) o₀
+step s o₀ o i h room e =
+    let A = pack (take (2 * i) s) in
+    let la : length A ≡ i = omega (arith, length-pack (take (2 * i) s), length-take-le (2 * i) s (omega arith)) in
+    rw (e, put-next A o₀ i (getD s (2 * i) 0 + 16 * getD s (2 * i + 1) 0) la (omega arith), pack-take s i (omega arith))
+
+loop-holds : tie.Need-loop-holds Inv-loop μ-loop
+unfolding pack
+loop-holds c = (omega arith, refl, refl)
+
+-- Both nibbles of the pair at hand are below 16.
+narrow : (c : tie.After-shared-slice-known2 Inv-loop μ-loop)
+    → let sent = c .before .before .before .before .args .sent .now in
+    let i = c .before .before .before .loop .i in
+    (getD sent (2 * i) 0 < 16) × (getD sent (2 * i + 1) 0 < 16)
+narrow c =
+    let sent = c .before .before .before .before .args .sent .now in
+    let i = c .before .before .before .loop .i in
+    let all = wide-none 0 sent (c .before .before .before .before .pre .0) in
+    (all-get (λ b. b < 16) sent (2 * i) 0 (omega arith) all, all-get (λ b. b < 16) sent (2 * i + 1) 0 (omega arith) all)
+
+mul-out-3 : tie.Need-mul-out-3 Inv-loop μ-loop
+mul-out-3 c = omega (arith, narrow c)
+
+add-out-2 : tie.Need-add-out-2 Inv-loop μ-loop
+add-out-2 c = omega (arith, narrow c)
+
+loop-again : tie.Need-loop-again Inv-loop μ-loop
+loop-again c =
+    let start = c .before .before .before .before in
+    let at = c .before .before .before .loop in (
+      omega arith,
+      simp length-set (omega arith),
+      step (start .args .sent .now) (start .args .out .now) (at .out) (at .i) (c .before .before .loop-test .taken) (start .pre .1) (at .inv .2),
+    )
+
+returns : tie.Need-returns Inv-loop μ-loop
+returns c =
+    let sent = c .before .before .args .sent .now in
+    let e : c .before .loop .i ≡ length sent / 2 = omega arith in
+    c .before .loop .inv .2 ∙ rw (e, pack-whole sent)
+
+pub put-packed-spec : {M : Type 1} → statement M
+put-packed-spec =
+    tie.close
+    (tie.spec
+    Inv-loop
+    μ-loop
+    loop-holds
+    (λ c. omega arith)
+    (λ c. omega arith)
+    (λ c. omega arith)
+    (λ c. omega arith)
+    (λ c. omega arith)
+    mul-out-3
+    add-out-2
+    (λ c. omega arith)
+    (λ c. omega arith)
+    (λ c. omega arith)
+    loop-again
+    (λ c. omega arith)
+    returns)

@@ -1,0 +1,2 @@
+pub mod Nibbles
+pub mod Wide

@@ -1,0 +1,106 @@
+// Nibbles, packed bytes and the checksum, over any length: shared by every kind of dump.
+// Below it: answers.
+use answers::NO_ROOM;
+use answers::Outcome;
+use answers::WIDE_DATA;
+use answers::WRONG_LENGTH;
+ghost use mathlib.Core.Path.{_≡_};
+ghost use mathlib.Core.List.{_++_};
+ghost use mathlib.Core.Option.{none};
+ghost use Prim.Native.Nat.{_*_, _/_, _≤_};
+ghost use lib.ListN.{length, drop};
+ghost use Rattle.answers.specs.Effect.{Gives};
+ghost use Rattle.nibbles.specs.Nibbles.{nibbles, pack, sum, firstWide, packing, unpacking};
+ghost use Rattle.nibbles.specs.Wide.{foundWide};
+
+// Where the first data byte above 15 stands.
+pub enum Wide {
+    At(usize),
+    Nowhere,
+}
+
+// The sum of packed bytes, modulo 128.
+pub fn checksum(packed: &[u8]) -> u8
+    ensures { λ r. ⌜ r ≡ sum (now (packed .entry)) ⌝ }
+{
+    // A u8 wraps at 256, a multiple of 128.
+    let mut total: u8 = 0;
+    let mut i: usize = 0;
+    while i < packed.len() {
+        total = std::num::wrapping_add_u8(total, packed[i]);
+        i += 1;
+    }
+    total % 128
+}
+
+// The first data byte above 15.
+pub fn first_wide(sent: &[u8]) -> Wide
+    ensures { λ r. ⌜ r ≡ foundWide (firstWide (now (sent .entry))) ⌝ }
+{
+    let mut i: usize = 0;
+    while i < sent.len() {
+        if 15 < sent[i] {
+            return Wide::At(i);
+        }
+        i += 1;
+    }
+    Wide::Nowhere
+}
+
+// Each byte as its remainder by 16, then its quotient by 16. The caller has seen that the nibbles fit.
+fn put_nibbles(bytes: &[u8], out: &mut [u8])
+    requires { ⌜ 2 * length (now bytes) ≤ length (now out) ⌝ }
+    ensures { λ _. ⌜ now (out .exit) ≡ nibbles (now (bytes .entry)) ++ drop (2 * length (now (bytes .entry))) (now (out .entry)) ⌝ }
+{
+    let mut i: usize = 0;
+    while i < bytes.len() {
+        let b = bytes[i];
+        out[2 * i] = b % 16;
+        out[2 * i + 1] = b / 16;
+        i += 1;
+    }
+}
+
+// Nibbles of packed bytes at the start of a lent output: 13 where they do not fit.
+pub fn unpack_into(bytes: &[u8], out: &mut [u8]) -> Outcome
+    ensures { λ r. ⌜ Gives (unpacking (now (bytes .entry)) (now (out .entry))) r (now (out .exit)) ⌝ }
+{
+    if out.len() / 2 < bytes.len() {
+        return answers::refused(NO_ROOM, 0);
+    }
+    put_nibbles(bytes, out);
+    answers::done(2 * bytes.len())
+}
+
+// Two nibbles to a byte. The caller has seen that none is above 15 and that the bytes fit.
+fn put_packed(sent: &[u8], out: &mut [u8])
+    requires { ⌜ (firstWide (now sent) ≡ none) × (length (now sent) / 2 ≤ length (now out)) ⌝ }
+    ensures { λ _. ⌜ now (out .exit) ≡ pack (now (sent .entry)) ++ drop (length (now (sent .entry)) / 2) (now (out .entry)) ⌝ }
+{
+    let n = sent.len() / 2;
+    let mut i: usize = 0;
+    while i < n {
+        out[i] = sent[2 * i] + 16 * sent[2 * i + 1];
+        i += 1;
+    }
+}
+
+// Packed bytes of nibbles at the start of a lent output: 7 for an odd number, 9 for a byte above 15, 13 where they do not fit.
+pub fn pack_into(sent: &[u8], out: &mut [u8]) -> Outcome
+    ensures { λ r. ⌜ Gives (packing (now (sent .entry)) (now (out .entry))) r (now (out .exit)) ⌝ }
+{
+    if sent.len() % 2 == 1 {
+        return answers::refused(WRONG_LENGTH, 0);
+    }
+    let w = first_wide(sent);
+    match w {
+        Wide::At(i) => answers::refused(WIDE_DATA, i),
+        Wide::Nowhere => {
+            if out.len() < sent.len() / 2 {
+                return answers::refused(NO_ROOM, 0);
+            }
+            put_packed(sent, out);
+            answers::done(sent.len() / 2)
+        }
+    }
+}

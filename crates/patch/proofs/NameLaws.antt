@@ -1,0 +1,229 @@
+-- Names: a character and its stored byte determine each other, and setting and showing go by the patch's fields.
+use mathlib.Core.Path.{_≡_, refl, ap, _∙_}
+use mathlib.Core.Bool.{Bool, true, false, cond, not, _||_}
+use mathlib.Core.Option.{none}
+use mathlib.Core.List.{List, [], _∷_, _++_, map}
+use Prim.Native.Nat.{ℕ, zero, suc, _+_, _-_, _*_, _≤_}
+use native.Mathlib.Omega.{arith}
+use lib.Dec.{eqb, ltb}
+use lib.ListN.{length, getD, take, drop, length-map, length-append, length-drop, take-append-drop}
+use lib.Seq.{length-take-le, take-at, getD-append-add, getD-drop}
+use borrow.Author.Tests.{eq-eqb, lt-ltb, le-ltb, ltb-true, ltb-false}
+use Rattle.answers.specs.Table.{Row, row, Verdict, done, first}
+use Rattle.answers.specs.Effect.{changed, tested, outcome}
+use Rattle.answers.specs.Lists.{All}
+use Rattle.patch.specs.Patch.{outFrom, firstOut, halfFrom, firstHalf, fieldRows, patchRows}
+use Rattle.patch.specs.Names.{shown, stored, anyOutside, naming, showing}
+use Rattle.patch.proofs.Rules.{one-in, one-more-in, none-out, out-join, out-split, name-accepts, name-byte}
+use Rattle.patch.proofs.Answers.{Passes, all-pass, passed-over, changed-zero, passed-zero}
+use Rattle.patch.proofs.Tests.{patch-passed, right-length}
+
+-- A name of eight allowed characters, set in 134 bytes, goes by the fields alone.
+pub naming-fields : (p text : List ℕ) → length p ≡ 134 → length text ≡ 8 → anyOutside text ≡ false
+    → naming p text ≡ changed 0 (map stored text ++ drop 8 p) p (first (fieldRows p) (done 0 [] []))
+unfolding naming
+naming-fields p text right eight inside = simp (eq-eqb _ _ right, eq-eqb _ _ eight, inside)
+
+-- The name of a patch that passes its tests has eight characters.
+pub length-shown : (p : List ℕ) → length p ≡ 134 → length (map shown (take 8 p)) ≡ 8
+length-shown p e = length-map (take 8 p) shown ∙ length-take-le 8 p (omega arith)
+
+-- A patch that passes its tests is shown where the output has room.
+pub showing-room : (p out : List ℕ) → tested (patchRows p) .answer ≡ 0
+    → showing p out ≡ changed 8 (map shown (take 8 p) ++ drop 8 out) out (first (row 13 (ltb (length out) 8) ∷ []) (done 0 [] []))
+unfolding showing
+showing-room p out e =
+    let h = patch-passed p e in
+    let eight = length-shown p (right-length p 134 (h .0)) in
+    let over = passed-over (patchRows p) (row 13 (ltb (length out) 8) ∷ []) (done 0 [] []) h in
+    rw eight (ap (changed 8 (map shown (take 8 p) ++ drop 8 out) out) over)
+
+-- A character of 32..95 is shown again as itself once it is stored.
+pub shown-stored : (t : ℕ) → 32 ≤ t → t ≤ 95 → shown (stored t) ≡ t
+unfolding shown stored
+shown-stored t l h = go (ltb t 64) refl
+  where
+    go : (u : Bool) → ltb t 64 ≡ u → shown (cond u t (t - 64)) ≡ t
+    go true q = simp (le-ltb t 32 l)
+    go false q = let k = ltb-false t 64 q in simp (lt-ltb (t - 64) 32 (omega arith)) (omega arith)
+
+-- Such a character is stored as a byte of 0..63.
+pub stored-small : (t : ℕ) → 32 ≤ t → t ≤ 95 → stored t ≤ 63
+unfolding stored
+stored-small t l h = go (ltb t 64) refl
+  where
+    go : (u : Bool) → ltb t 64 ≡ u → cond u t (t - 64) ≤ 63
+    go true q = let k = ltb-true t 64 q in omega arith
+    go false q = omega arith
+
+-- A byte of 0..63 is stored again as itself once it is shown.
+pub stored-shown : (b : ℕ) → b ≤ 63 → stored (shown b) ≡ b
+unfolding shown stored
+stored-shown b h = go (ltb b 32) refl
+  where
+    go : (u : Bool) → ltb b 32 ≡ u → stored (cond u (b + 64) b) ≡ b
+    go true q = simp (le-ltb (b + 64) 64 (omega arith)) (omega arith)
+    go false q = simp (lt-ltb b 64 (omega arith))
+
+-- Such a byte is shown as a character of 32..95.
+pub shown-allowed : (b : ℕ) → b ≤ 63 → (32 ≤ shown b) × (shown b ≤ 95)
+unfolding shown
+shown-allowed b h = go (ltb b 32) refl
+  where
+    go : (u : Bool) → ltb b 32 ≡ u → (32 ≤ cond u (b + 64) b) × (cond u (b + 64) b ≤ 95)
+    go true q = let k = ltb-true b 32 q in omega arith
+    go false q = let k = ltb-false b 32 q in omega arith
+
+-- What a text without a character outside says of its first, and of the rest.
+allowed : (t : ℕ) (ts : List ℕ) → anyOutside (t ∷ ts) ≡ false → (32 ≤ t) × ((t ≤ 95) × (anyOutside ts ≡ false))
+unfolding anyOutside
+allowed t ts e = go (ltb t 32) (ltb 95 t) refl refl e
+  where
+    go : (u v : Bool) → ltb t 32 ≡ u → ltb 95 t ≡ v → (u || v) || anyOutside ts ≡ false → (32 ≤ t) × ((t ≤ 95) × (anyOutside ts ≡ false))
+    go true v q r e = let z : _≡_ {A = ℕ} 0 1 = cc in absurd (omega arith)
+    go false true q r e = let z : _≡_ {A = ℕ} 0 1 = cc in absurd (omega arith)
+    go false false q r e = (ltb-false t 32 q, (ltb-false 95 t r, e))
+
+inside-cons : (t : ℕ) (ts : List ℕ) → 32 ≤ t → t ≤ 95 → anyOutside ts ≡ false → anyOutside (t ∷ ts) ≡ false
+unfolding anyOutside
+inside-cons t ts l h e = simp (le-ltb t 32 l, le-ltb 95 t h, e)
+
+no-text : anyOutside [] ≡ false
+unfolding anyOutside
+no-text = refl
+
+-- The stored bytes of an allowed text are in range at the name's places.
+stored-in : (k : ℕ) (text : List ℕ) → k + length text ≤ 8 → anyOutside text ≡ false → outFrom k (map stored text) ≡ none
+stored-in k [] h e = none-out k
+stored-in k (t ∷ ts) h e =
+    let a = allowed t ts e in
+    one-more-in k (stored t) (map stored ts) (name-accepts k (stored t) (omega arith) (stored-small t (a .0) (a .1 .0)))
+    (stored-in (suc k) ts (omega arith) (a .1 .1))
+
+half-same : (n b : ℕ) (p q : List ℕ) → ((j : ℕ) → 104 ≤ j → getD p j 0 ≡ getD q j 0) → halfFrom n b p ≡ halfFrom n b q
+unfolding halfFrom
+half-same zero b p q h = refl
+half-same (suc n) b p q h =
+    let source = h (104 + 3 * b) (omega arith) in
+    let destination = h (106 + 3 * b) (omega arith) in
+    let rest = half-same n (suc b) p q h in
+    simp (source, destination, rest)
+
+-- Behind the name the bytes stay where they are.
+behind : (a p : List ℕ) (j : ℕ) → length a ≡ 8 → 8 ≤ j → getD (a ++ drop 8 p) j 0 ≡ getD p j 0
+behind a p j e h =
+    let at-a : length a + (j - 8) ≡ j = omega arith in
+    let at-p : 8 + (j - 8) ≡ j = omega arith in
+    let f = rw at-a at (getD-append-add a (drop 8 p) (j - 8) 0) in
+    f ∙ (rw at-p at (getD-drop 8 p (j - 8) 0))
+
+-- A patch that passes its tests still does once an allowed name is set in it.
+pub named-accepted : (p text : List ℕ) → length p ≡ 134 → length text ≡ 8 → anyOutside text ≡ false → firstOut p ≡ none → firstHalf p ≡ none
+    → (firstOut (map stored text ++ drop 8 p) ≡ none) × (firstHalf (map stored text ++ drop 8 p) ≡ none)
+named-accepted p text lp lt a e f =
+    let name = map stored text in
+    let ln : length name ≡ 8 = length-map text stored ∙ lt in
+    let lk : length (take 8 p) ≡ 8 = length-take-le 8 p (omega arith) in
+    let whole : outFrom 0 (take 8 p ++ drop 8 p) ≡ none = rw (take-append-drop 8 p) e in
+    let rest = out-split 0 8 (take 8 p) (drop 8 p) (omega arith) whole .1 in
+    let buses = half-same 10 0 (name ++ drop 8 p) p (λ j h. behind name p j ln (omega arith)) in
+    (out-join 0 8 name (drop 8 p) (omega arith) (stored-in 0 text (omega arith) a) rest, buses ∙ f)
+
+-- A name that is set is the name that is shown.
+pub set-shown : (p text : List ℕ) → length text ≡ 8 → anyOutside text ≡ false → map shown (take 8 (map stored text ++ drop 8 p)) ≡ text
+set-shown p text l a = rw (take-at (map stored text) (drop 8 p) 8 (length-map text stored ∙ l)) (go text a)
+  where
+    go : (ts : List ℕ) → anyOutside ts ≡ false → map shown (map stored ts) ≡ ts
+    go [] e = refl
+    go (t ∷ ts) e =
+        let b = allowed t ts e in
+        let first = shown-stored t (b .0) (b .1 .0) in
+        let rest = go ts (b .1 .1) in
+        cc
+
+-- The name's bytes from place k on, in range: each is of 0..63.
+named-small : (k : ℕ) (bs : List ℕ) → k + length bs ≤ 8 → outFrom k bs ≡ none → All (λ b. b ≤ 63) bs
+named-small k [] h e = tt
+named-small k (b ∷ bs) h e =
+    let c = one-in k b bs e in
+    (name-byte k b (omega arith) (c .0), named-small (suc k) bs (omega arith) (c .1))
+
+name-small : (p : List ℕ) → length p ≡ 134 → firstOut p ≡ none → All (λ b. b ≤ 63) (take 8 p)
+name-small p l e =
+    let lk : length (take 8 p) ≡ 8 = length-take-le 8 p (omega arith) in
+    let whole : outFrom 0 (take 8 p ++ drop 8 p) ≡ none = rw (take-append-drop 8 p) e in
+    named-small 0 (take 8 p) (omega arith) (out-split 0 8 (take 8 p) (drop 8 p) (omega arith) whole .0)
+
+-- A name that is shown is allowed to be set.
+pub shown-inside : (p : List ℕ) → length p ≡ 134 → firstOut p ≡ none → anyOutside (map shown (take 8 p)) ≡ false
+shown-inside p l e = go (take 8 p) (name-small p l e)
+  where
+    go : (bs : List ℕ) → All (λ b. b ≤ 63) bs → anyOutside (map shown bs) ≡ false
+    go [] a = no-text
+    go (b ∷ bs) a =
+        let s = shown-allowed b (a .0) in
+        inside-cons (shown b) (map shown bs) (s .0) (s .1) (go bs (a .1))
+
+-- Setting it changes nothing.
+pub shown-set : (p : List ℕ) → length p ≡ 134 → firstOut p ≡ none → map stored (map shown (take 8 p)) ++ drop 8 p ≡ p
+shown-set p l e = rw (go (take 8 p) (name-small p l e)) (take-append-drop 8 p)
+  where
+    go : (bs : List ℕ) → All (λ b. b ≤ 63) bs → map stored (map shown bs) ≡ bs
+    go [] a = refl
+    go (b ∷ bs) a =
+        let first = stored-shown b (a .0) in
+        let rest = go bs (a .1) in
+        cc
+
+-- The rows of setting a name.
+abbrev nameRows : List ℕ → List ℕ → List Row
+nameRows p text = row 7 (not (eqb (length p) 134)) ∷ row 7 (not (eqb (length text) 8)) ∷ row 8 (anyOutside text) ∷ fieldRows p
+
+-- Where they pass, the text's bytes are stored.
+naming-done : (p text : List ℕ) → All Passes (nameRows p text)
+    → naming p text ≡ record { result = outcome 0 0; lent = map stored text ++ drop 8 p }
+unfolding naming
+naming-done p text a = ap (changed 0 (map stored text ++ drop 8 p) p) (passed-over (nameRows p text) [] (done 0 [] []) a)
+
+-- Where setting is done, they passed.
+name-taken : (p text : List ℕ) → naming p text .result .answer ≡ 0 → All Passes (nameRows p text)
+unfolding naming
+name-taken p text e =
+    all-pass (nameRows p text) (λ z. omega arith, (λ z. omega arith, (λ z. omega arith, (λ z. omega arith, (λ z. omega arith, tt)))))
+    (changed-zero (nameRows p text) 0 (map stored text ++ drop 8 p) p e)
+
+is-right : (p : List ℕ) (n : ℕ) → length p ≡ n → not (eqb (length p) n) ≡ false
+is-right p n e = simp (eq-eqb _ _ e)
+
+-- A name that is set is the name that is shown.
+pub set-then-shown : (p text out : List ℕ) → naming p text .result .answer ≡ 0 → 8 ≤ length out
+    → showing (naming p text .lent) out ≡ record { result = outcome 0 8; lent = text ++ drop 8 out }
+set-then-shown p text out e room =
+    let a = name-taken p text e in
+    let lp = right-length p 134 (a .0) in
+    let lt = right-length text 8 (a .1 .0) in
+    let inside = a .1 .1 .0 in
+    let q = map stored text ++ drop 8 p in
+    let ok = named-accepted p text lp lt inside (a .1 .1 .1 .0) (a .1 .1 .1 .1 .0) in
+    let lq : length q ≡ 134 = simp (length-append, length-map, length-drop) (omega arith) in
+    let zero = passed-zero (patchRows q) (is-right q 134 lq, (ok .0, (ok .1, tt))) in
+    rw (naming-done p text a, showing-room q out zero, set-shown p text lt inside) (simp (le-ltb (length out) 8 room))
+
+-- A name that is shown and set again changes nothing.
+pub shown-then-set : (p out : List ℕ) → showing p out .result .answer ≡ 0
+    → naming p (take 8 (showing p out .lent)) ≡ record { result = outcome 0 0; lent = p }
+unfolding showing
+shown-then-set p out e =
+    let bytes = map shown (take 8 p) in
+    let rows = patchRows p ++ (row 13 (ltb (length out) (length bytes)) ∷ []) in
+    let new = bytes ++ drop (length bytes) out in
+    let a =
+    all-pass rows (λ z. omega arith, (λ z. omega arith, (λ z. omega arith, (λ z. omega arith, tt))))
+    (changed-zero rows (length bytes) new out e) in
+    let lp = right-length p 134 (a .0) in
+    let in-range = a .1 .0 in
+    let eight = length-shown p lp in
+    let shows = ap (λ (v : Verdict). changed (length bytes) new out v .lent) (passed-over rows [] (done 0 [] []) a) in
+    let pass : All Passes (nameRows p bytes) =
+    (is-right p 134 lp, (is-right bytes 8 eight, (shown-inside p lp in-range, (in-range, (a .1 .1 .0, tt))))) in
+    rw (shows, take-at bytes (drop (length bytes) out) 8 eight, naming-done p bytes pass, shown-set p lp in-range)

@@ -1,0 +1,94 @@
+-- The tests in the definition's order; each refusal leaves the patch, and the last step stores the text's bytes.
+use mathlib.Core.Path.{_≡_, sym, _∙_}
+use mathlib.Core.List.{List, [], _++_, map}
+use Prim.Native.Nat.{ℕ}
+use lib.ListN.{drop}
+use borrow.Author.Needs.{needs}
+use borrow.Author.Tests.{eq-eqb, ne-eqb}
+use Rattle.answers.specs.Table.{done, first}
+use Rattle.answers.specs.Effect.{changed}
+use Rattle.patch.specs.Patch.{fieldRows}
+use Rattle.patch.specs.Names.{naming, stored}
+use Rattle.patch.proofs.Answers.{refused-keeps, gives-by, answered-zero, passed-over}
+use Rattle.patch.proofs.Tests.{fields-passed}
+use Rattle.patch.proofs.NameLaws.{naming-fields}
+use Rattle.patch.proofs.names.set_name.Statement.{statement}
+use Rattle.patch.proofs.names.set_name.Tie as tie
+
+abbrev patch : tie.After-test-fields → List ℕ
+patch t = t .before .before .before .before .before .before .before .before .args .p .now
+
+abbrev text : tie.After-test-fields → List ℕ
+text t = t .before .before .before .before .before .before .before .before .args .text .now
+
+abbrev named : tie.After-test-fields → List ℕ
+named t = map stored (text t) ++ drop 8 (patch t)
+
+-- Where the fields have been tested, both lengths and the characters have passed.
+tests-passed : (t : tie.After-test-fields)
+    → naming (patch t) (text t) ≡ changed 0 (named t) (patch t) (first (fieldRows (patch t)) (done 0 [] []))
+tests-passed t =
+    let inside = t .before .before in
+    let tests = inside .before .before in
+    let allowed = sym (inside .before .any-outside .ensures) ∙ inside .if3 .left in
+    naming-fields (patch t) (text t) (tests .before .if1 .left) (tests .if2 .left) allowed
+
+returns : tie.Need-returns
+unfolding naming
+returns c =
+    let long = ne-eqb _ _ (c .before .if1 .taken) in
+    record { result = simp long (c .refused .ensures); lent = simp long }
+
+returns-2 : tie.Need-returns-2
+unfolding naming
+returns-2 c =
+    let right = eq-eqb _ _ (c .before .before .if1 .left) in
+    let long = ne-eqb _ _ (c .before .if2 .taken) in
+    record { result = simp (right, long) (c .refused2 .ensures); lent = simp (right, long) }
+
+returns-3 : tie.Need-returns-3
+unfolding naming
+returns-3 c =
+    let tests = c .before .before .before in
+    let right = eq-eqb _ _ (tests .before .if1 .left) in
+    let eight = eq-eqb _ _ (tests .if2 .left) in
+    let outside = sym (c .before .before .any-outside .ensures) ∙ c .before .if3 .taken in
+    record { result = simp (right, eight, outside) (c .refused3 .ensures); lent = simp (right, eight, outside) }
+
+returns-4 : tie.Need-returns-4
+returns-4 c =
+    let t = c .before .before in
+    let fields = t .test-fields in
+    rw (tests-passed t)
+    (refused-keeps (fieldRows (patch t)) [] (done 0 [] []) 0 (named t) (patch t) (fields .result) (fields .ensures) (c .if4 .taken))
+
+returns-5 : tie.Need-returns-5
+returns-5 c =
+    let w = c .before .before .before in
+    let passed = w .before .before in
+    let t = passed .before .before in
+    let rows = fieldRows (patch t) in
+    let zero = answered-zero rows (t .test-fields .result) (t .test-fields .ensures) (passed .if4 .left) in
+    let v = passed-over rows [] (done 0 [] []) (fields-passed (patch t) zero) in
+    let stored-now = rw (t .before .before .before .before .if2 .left) at (w .store .ensures) in
+    rw (tests-passed t)
+    (gives-by (first rows (done 0 [] [])) (done 0 [] []) 0 (named t) (patch t) (c .done .result) (w .store .last .1 .0) v (c .done .ensures) stored-now)
+
+pub set-name-spec : {M : Type 1} → statement M
+set-name-spec =
+    tie.close
+    (tie.spec
+    (λ c κs. search needs)
+    returns
+    (λ c κs. search needs)
+    returns-2
+    (λ c κs. search needs)
+    (λ c κs. search needs)
+    returns-3
+    (λ c κs. search needs)
+    (λ c. search needs)
+    returns-4
+    (λ c κs. search needs)
+    (λ c κs. search needs)
+    (λ c. search needs)
+    returns-5)

@@ -1,0 +1,4 @@
+pub mod Fields
+pub mod Patch
+pub mod Names
+pub mod Columns

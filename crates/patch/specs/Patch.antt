@@ -1,0 +1,39 @@
+-- The tests of a patch: the field ranges and the bus rule.
+use mathlib.Core.Bool.{Bool, true, false, cond, Bool·beq}
+use mathlib.Core.List.{List, [], _∷_}
+use mathlib.Core.Option.{Option, none, some}
+use mathlib.Core.Bool.{not}
+use Prim.Native.Nat.{ℕ, zero, suc, _+_, _*_}
+use lib.Dec.{eqb, ltb}
+use lib.ListN.{length, getD}
+use Rattle.answers.specs.Table.{Row, row, rowAt}
+use Rattle.patch.specs.Fields.{inRange}
+
+-- The lowest place out of range among bytes the first of which stands at place k.
+unfoldable pub outFrom : ℕ → List ℕ → Option ℕ
+outFrom k [] = none
+outFrom k (b ∷ p) = cond (inRange k b) (outFrom (suc k) p) (some k)
+
+abbrev pub firstOut : List ℕ → Option ℕ
+firstOut = outFrom 0
+
+-- A bus has source and destination both zero or both not: half used otherwise.
+unfoldable pub halfUsed : ℕ → ℕ → Bool
+halfUsed source destination = not (Bool·beq (eqb source 0) (eqb destination 0))
+
+-- The lowest half used of the n buses from bus b on: source at 104 + 3b, destination at 106 + 3b.
+unfoldable pub halfFrom : ℕ → ℕ → List ℕ → Option ℕ
+halfFrom zero b p = none
+halfFrom (suc n) b p =
+    cond (halfUsed (getD p (104 + 3 * b) 0) (getD p (106 + 3 * b) 0)) (some b) (halfFrom n (suc b) p)
+
+abbrev pub firstHalf : List ℕ → Option ℕ
+firstHalf = halfFrom 10 0
+
+-- The two tests that a patch of 134 bytes has to pass: 11, then 12.
+abbrev pub fieldRows : List ℕ → List Row
+fieldRows p = rowAt 11 (firstOut p) ∷ rowAt 12 (firstHalf p) ∷ []
+
+-- The test of a lent patch: 7, then 11, then 12.
+abbrev pub patchRows : List ℕ → List Row
+patchRows p = row 7 (not (eqb (length p) 134)) ∷ fieldRows p

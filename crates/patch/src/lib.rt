@@ -1,0 +1,5 @@
+// The 134 bytes of a patch: the field table, the tests of a patch, its name.
+// Below it: answers.
+pub mod checks;
+pub mod fields;
+pub mod names;

@@ -1,0 +1,89 @@
+-- What a message comes to by its span: the length of its body, the real time in it, and how it ends.
+use mathlib.Core.Path.{_≡_, refl, sym, ap, _∙_}
+use mathlib.Core.List.{List, [], _∷_}
+use Prim.Native.Nat.{ℕ, suc, _+_, _≤_, _<_}
+use native.Mathlib.Omega.{arith}
+use lib.ListN.{length, take, drop, length-drop}
+use Rattle.answers.specs.Table.{Verdict, done, refused, answerOf, detailOf}
+use Rattle.frames.specs.Bytes.{body, withoutRealTime, realTimeIn, framed}
+use Rattle.frames.specs.Extent.{spanOf, endingOf}
+use Rattle.frames.specs.Stream.{messageAt, readInto}
+use Rattle.frames.specs.declared.Span.{Span}
+use Rattle.frames.proofs.Bytes.{body-within}
+use Rattle.frames.proofs.Extent.{body-take, message-refused, message-complete}
+use Rattle.messages.specs.Judge.{judge}
+use Rattle.messages.specs.Judged.{judged}
+use Rattle.messages.specs.declared.judged.Judged.{Judged}
+use Rattle.reading.specs.Walk.{numbersOf}
+use Rattle.reading.specs.Read.{Reads, readingAs, readMessage}
+use Rattle.reading.specs.declared.recording.Reading.{Reading}
+use Rattle.reading.specs.declared.walking.Report.{Report}
+
+judged-answer : (v : Verdict) → judged v .answer ≡ answerOf v
+judged-answer (done o b p) = refl
+judged-answer (refused n d) = refl
+
+judged-detail : (v : Verdict) → judged v .detail ≡ detailOf v
+judged-detail (done o b p) = refl
+judged-detail (refused n d) = refl
+
+module _ (t : List ℕ) (s : Span) (e : s ≡ spanOf t) where
+  pub span-length : s .length ≡ length (body t)
+  unfolding spanOf
+  span-length = ap (λ (x : Span). x .length) e
+
+  span-noise : s .noise ≡ realTimeIn (body t)
+  unfolding spanOf
+  span-noise = ap (λ (x : Span). x .noise) e
+
+  pub span-ending : s .ending ≡ endingOf (drop (length (body t)) t)
+  unfolding spanOf
+  span-ending = ap (λ (x : Span). x .ending) e
+
+  pub span-within : s .length ≤ length t
+  span-within = omega (arith, span-length, body-within t)
+
+  -- The bytes that the span counts are the body, and the real time counted is theirs.
+  pub span-body : take (s .length) t ≡ body t
+  span-body = rw span-length (body-take t)
+
+  pub span-quiet : s .noise ≡ realTimeIn (take (s .length) t)
+  span-quiet = rw span-body span-noise
+
+  pub place-behind : (f : ℕ) → suc f + length (body t) ≡ f + 1 + s .length
+  place-behind f = omega (arith, span-length)
+
+  -- A message that is cut or interrupted, and one that is complete.
+  pub report-ended : (f : ℕ) → (s .ending ≡ 0 → ⊥)
+      → _≡_ {A = Report} (record { start = f; end = f + 1 + s .length; answer = s .ending; detail = 0 }) (numbersOf (messageAt judge f t))
+  report-ended f n =
+      rw (message-refused judge f t (λ z. n (span-ending ∙ z)), span-ending, place-behind f)
+
+  pub report-judged : (f : ℕ) (j : Judged) → s .ending ≡ 0 → j ≡ judged (judge (framed (withoutRealTime (take (s .length) t))))
+      → _≡_ {A = Report} (record { start = f; end = f + 1 + s .length + 1; answer = j .answer; detail = j .detail }) (numbersOf (messageAt judge f t))
+  report-judged f j z q =
+      let v = judge (framed (withoutRealTime (body t))) in
+      let j′ : j ≡ judged v = q ∙ rw span-body in
+      let end : suc (suc f + length (body t)) ≡ f + 1 + s .length + 1 = omega (arith, span-length) in
+      rw (message-complete judge f t (sym span-ending ∙ z), end, j′, judged-answer v, judged-detail v)
+
+  -- A complete message has a byte behind its body.
+  pub span-closed : s .ending ≡ 0 → s .length < length t
+  span-closed z = by-rest (drop (length (body t)) t) refl (sym span-ending ∙ z)
+    where
+      by-rest : (r : List ℕ) → drop (length (body t)) t ≡ r → endingOf r ≡ 0 → s .length < length t
+      by-rest [] q k = absurd (omega arith)
+      by-rest (x ∷ r) q k = omega (arith, span-length, ap length q, length-drop (length (body t)) t)
+
+  -- The same read into a lent buffer.
+  pub read-ended : (f : ℕ) (lent : List ℕ) (r : Reading) → (s .ending ≡ 0 → ⊥) → r ≡ readingAs f (f + 1 + s .length) (s .ending) 0 0 0 0 0
+      → Reads (readMessage f t lent) r lent
+  read-ended f lent r n k =
+      rw (message-refused judge f t (λ z. n (span-ending ∙ z))) (record { result = k ∙ rw (span-ending, place-behind f); lent = refl })
+
+  pub read-complete : (f : ℕ) (lent : List ℕ) (r : Reading) (after : List ℕ) → s .ending ≡ 0
+      → Reads (readInto f (f + 1 + s .length + 1) (judge (framed (withoutRealTime (take (s .length) t)))) lent) r after
+      → Reads (readMessage f t lent) r after
+  read-complete f lent r after z g =
+      let end : suc (suc f + length (body t)) ≡ f + 1 + s .length + 1 = omega (arith, span-length) in
+      rw (message-complete judge f t (sym span-ending ∙ z), end) (rw span-body at g)

@@ -1,0 +1,49 @@
+-- `report_at` gives the message by how it ends: cut or interrupted, or judged.
+use mathlib.Core.Path.{sym}
+use native.Mathlib.Omega.{arith}
+use lib.ListN.{length, take}
+use lib.Seq.{length-take-le}
+use borrow.Author.Needs.{needs}
+use Rattle.reading.proofs.Spans.{span-within, span-quiet, span-closed, report-ended, report-judged}
+use Rattle.reading.proofs.walking.report_at.Statement.{statement}
+use Rattle.reading.proofs.walking.report_at.Tie as tie
+
+add-end-2 : tie.Need-add-end-2
+add-end-2 c = let a = c .before in omega (arith, span-within (a .args .rest .now) (a .args .span) (a .pre .1))
+
+returns : tie.Need-returns
+returns c =
+    let a = c .before .before in
+    report-ended (a .args .rest .now) (a .args .span) (a .pre .1) (a .args .start) (c .if1 .taken)
+
+slice-aggregate-judge-body : tie.Need-slice-aggregate-judge-body
+slice-aggregate-judge-body c =
+    let a = c .before .before .before in
+    sym (length-take-le (a .args .span .length) (a .args .rest .now) (span-within (a .args .rest .now) (a .args .span) (a .pre .1)))
+
+judge-body-requires : tie.Need-judge-body-requires
+judge-body-requires c κs =
+    let a = c .before .before .before in
+    span-quiet (a .args .rest .now) (a .args .span) (a .pre .1)
+
+add-t8 : tie.Need-add-t8
+add-t8 c =
+    let a = c .before .before .before .before in
+    omega (arith, span-closed (a .args .rest .now) (a .args .span) (a .pre .1) (c .before .before .if1 .left), a .pre .0)
+
+returns-2 : tie.Need-returns-2
+returns-2 c =
+    let a = c .before .before .before .before in
+    report-judged (a .args .rest .now) (a .args .span) (a .pre .1) (a .args .start) (c .judge-body .result) (c .before .before .if1 .left) (c .judge-body .ensures)
+
+pub report-at-spec : {M : Type 1} → statement M
+report-at-spec =
+    tie.close
+    (tie.spec
+    (λ c. search needs)
+    add-end-2
+    returns
+    slice-aggregate-judge-body
+    judge-body-requires
+    add-t8
+    returns-2)

@@ -1,0 +1,99 @@
+// The reports of a stream, by two states: outside a message and inside one, that hand the rest of the input to each other.
+use crate::walking::Report;
+use crate::walking::report_at;
+ghost use mathlib.Core.Path.{_≡_};
+ghost use mathlib.Core.List.{[], _∷_, _++_};
+ghost use Prim.Native.Nat.{ℕ, suc, _+_, _^_, _<_, _≤_};
+ghost use lib.ListN.{length, drop};
+ghost use Rattle.frames.specs.Scan.{outside, inside, scan};
+ghost use Rattle.messages.specs.Judge.{judge};
+ghost use Rattle.reading.specs.Listed.{Lists, Fills, Makes};
+
+// How many reports were made, and the place from which to go on.
+pub struct Listed {
+    pub count: usize,
+    pub next: usize,
+}
+
+// A report's four numbers. The callers below have seen that they fit.
+fn put_report(r: Report, room: &mut [usize])
+    requires { ⌜ 4 ≤ length (now room) ⌝ }
+    ensures { λ _. ⌜ now (room .exit) ≡ (r .start ∷ r .end ∷ r .answer ∷ r .detail ∷ []) ++ drop 4 (now (room .entry)) ⌝ }
+{
+    room[0] = r.start;
+    room[1] = r.end;
+    room[2] = r.answer as usize;
+    room[3] = r.detail;
+}
+
+// Outside a message: on to the next F0H, if there is room for one more report.
+fn list_outside(rest: &[u8], place: usize, room: &mut [usize]) -> usize
+    requires { ⌜ place + length (now rest) < 2 ^ 64 ⌝ }
+    ensures { λ r. ⌜ Lists (scan judge place outside (now (rest .entry))) (now (room .entry)) (now (room .exit)) r ⌝ }
+{
+    if room.len() < 4 {
+        return 0;
+    }
+    let i = frames::find_start(rest);
+    if rest.len() <= i {
+        return 0;
+    }
+    list_inside(&rest[i + 1..], place + i, room)
+}
+
+// Inside the message whose F0H stands at `start`: its report, then on behind the byte that ended it, which may be an F0H.
+fn list_inside(rest: &[u8], start: usize, room: &mut [usize]) -> usize
+    requires { ⌜ start + 1 + length (now rest) < 2 ^ 64 ⌝ }
+    ensures { λ r. ⌜ Lists (scan judge (suc start) (inside start []) (now (rest .entry))) (now (room .entry)) (now (room .exit)) r ⌝ }
+{
+    if room.len() < 4 {
+        return 0;
+    }
+    let span = frames::find_end(rest);
+    let n = span.length;
+    put_report(report_at(rest, start, span), room);
+    if rest.len() <= n {
+        return 1;
+    }
+    let place = start + 1 + n;
+    if rest[n] == 0xF0 {
+        return 1 + list_inside(&rest[n + 1..], place, &mut room[4..]);
+    }
+    1 + list_outside(&rest[n + 1..], place + 1, &mut room[4..])
+}
+
+// The reports from a place of the input on, as many as fit, at most 64. The caller below has seen that the place is one of the input.
+fn list_some(s: &[u8], place: usize, room: &mut [usize]) -> usize
+    requires { ⌜ place ≤ length (now s) ⌝ }
+    ensures { λ r. ⌜ Fills (now (s .entry)) place (now (room .entry)) (now (room .exit)) r ⌝ }
+{
+    if 256 < room.len() {
+        return list_outside(&s[place..], place, &mut room[..256]);
+    }
+    list_outside(&s[place..], place, room)
+}
+
+// The reports from a place on, four numbers each, at the start of the lent room: as many as fit, at most 64 a call, which bounds
+// how many calls of the two states are under way.
+pub fn reports(s: &[u8], place: usize, room: &mut [usize]) -> Listed
+    ensures { λ r. ⌜ Makes (now (s .entry)) place (now (room .entry)) (now (room .exit)) r ⌝ }
+{
+    if s.len() < place {
+        return Listed {
+            count: 0,
+            next: place,
+        };
+    }
+    let count = list_some(s, place, room);
+    if count == 0 {
+        return Listed {
+            count: 0,
+            next: place,
+        };
+    }
+    let last = 4 * count - 3;
+    Listed {
+        count,
+        next: room[last],
+    }
+}

@@ -1,0 +1,116 @@
+//! The numbers the register prints, and the shapes in which routines give them.
+
+/// Done.
+pub const DONE: u8 = 0;
+/// No F0H at or after the place.
+pub const NO_MESSAGE: u8 = 1;
+/// The input ends inside the message.
+pub const CUT: u8 = 2;
+/// A status byte other than F7H stands inside the message.
+pub const INTERRUPTED: u8 = 3;
+/// The first byte after F0H isn't 10H.
+pub const OTHER_MANUFACTURER: u8 = 4;
+/// The next isn't 06H.
+pub const OTHER_DEVICE: u8 = 5;
+/// The opcode isn't among the five.
+pub const OTHER_OPCODE: u8 = 6;
+/// Wrong length, of a message or of something lent.
+pub const WRONG_LENGTH: u8 = 7;
+/// A patch number, version, zero, parameter, bus, name character, value or amount not allowed.
+pub const NOT_ALLOWED: u8 = 8;
+/// A data byte above 15.
+pub const WIDE_DATA: u8 = 9;
+/// The sum byte differs from the computed sum.
+pub const WRONG_SUM: u8 = 10;
+/// A field out of range.
+pub const OUT_OF_RANGE: u8 = 11;
+/// A bus half used.
+pub const HALF_USED: u8 = 12;
+/// The lent output is too short.
+pub const TOO_SHORT: u8 = 13;
+/// An amount outside -64..63 after extension. Seven bits extended from bit 6 never are, so no
+/// routine here gives it.
+pub const AMOUNT_OUTSIDE: u8 = 14;
+
+/// What a routine answers.
+#[derive(Clone, Copy, Debug, PartialEq, Eq)]
+#[must_use]
+pub struct Outcome {
+    /// One of the register's numbers.
+    pub answer: u8,
+    /// What the table names for that number, else 0.
+    pub detail: usize,
+}
+
+/// What the bank writer answers.
+#[derive(Clone, Copy, Debug, PartialEq, Eq)]
+#[must_use]
+pub struct BankOutcome {
+    /// One of the register's numbers.
+    pub answer: u8,
+    /// What the table names for that number, else 0.
+    pub detail: usize,
+    /// The number of the lowest bad patch with answers 11 and 12, else 0.
+    pub place: usize,
+}
+
+/// What the walk says of one message.
+#[derive(Clone, Copy, Debug, PartialEq, Eq)]
+#[must_use]
+pub struct Report {
+    /// The place of the message's F0H.
+    pub start: usize,
+    /// The place behind the message.
+    pub end: usize,
+    /// One of the register's numbers.
+    pub answer: u8,
+    /// The opcode with answer 0, else what the table names.
+    pub detail: usize,
+}
+
+/// What reading a record says of one message.
+#[derive(Clone, Copy, Debug, PartialEq, Eq)]
+#[must_use]
+pub struct Reading {
+    /// The place of the message's F0H.
+    pub start: usize,
+    /// The place behind the message.
+    pub end: usize,
+    /// One of the register's numbers.
+    pub answer: u8,
+    /// The opcode with answer 0, else what the table names.
+    pub detail: usize,
+    /// A patch number, or an edit's two or four bytes, as received; zero elsewhere.
+    pub bytes: [u8; 4],
+}
+
+/// An answer other than 0, with its detail.
+#[derive(Clone, Copy, Debug, PartialEq, Eq)]
+pub(crate) struct Refusal {
+    pub answer: u8,
+    pub detail: usize,
+}
+
+impl Refusal {
+    /// A refusal for which the table names no detail.
+    pub const fn plain(answer: u8) -> Self {
+        Self { answer, detail: 0 }
+    }
+
+    /// A refusal with its detail.
+    pub const fn at(answer: u8, detail: usize) -> Self {
+        Self { answer, detail }
+    }
+}
+
+impl From<Result<usize, Refusal>> for Outcome {
+    fn from(result: Result<usize, Refusal>) -> Self {
+        match result {
+            Ok(detail) => Self {
+                answer: DONE,
+                detail,
+            },
+            Err(Refusal { answer, detail }) => Self { answer, detail },
+        }
+    }
+}

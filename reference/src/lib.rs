@@ -1,0 +1,40 @@
+//! Oberheim Matrix-1000 system exclusive dumps: reading, testing, editing, writing and listing.
+//!
+//! An independent second program, written from the papers only. It makes dumps and the answers
+//! expected for them, against which the register's library is compared byte for byte.
+//!
+//! ```
+//! let input = [0x41, 0xF0, 0xF7, 0xF0, 0x10, 0x06, 0x06, 0x15, 0x7F, 0xF7, 0xF0];
+//! let text = "start end answer detail\n1 3 4 0\n3 10 0 6\n10 11 2 0\nmessages 3\n";
+//! assert_eq!(reference::listing(&input), text.as_bytes());
+//! ```
+
+#![deny(missing_docs)]
+#![forbid(unsafe_code)]
+
+pub mod answers;
+mod edits;
+mod frames;
+pub mod kinds;
+mod listing;
+mod names;
+pub mod nibbles;
+mod patch;
+mod reading;
+mod records;
+pub mod streams;
+pub mod table;
+mod writing;
+
+pub use answers::{BankOutcome, Outcome, Reading, Report};
+pub use edits::{apply_bus_edit, apply_edit, extend};
+pub use frames::is_real_time;
+pub use listing::{listing, LONGEST_INPUT};
+pub use names::{set_name, show_name, NAME_LENGTH};
+pub use patch::test_patch;
+pub use reading::{read, reports, walk, Reports};
+pub use table::{parameter_of, place_of, PATCH_LENGTH};
+pub use writing::{
+    write_bank, write_bus_edit, write_edit, write_edit_buffer, write_master, write_patch,
+    BANK_PATCHES,
+};

@@ -1,0 +1,158 @@
+//! The record of a message, or the reason it has none.
+
+use crate::answers::{
+    Refusal, CUT, INTERRUPTED, NOT_ALLOWED, OTHER_DEVICE, OTHER_MANUFACTURER, OTHER_OPCODE,
+    WIDE_DATA, WRONG_LENGTH, WRONG_SUM,
+};
+use crate::edits::{BusChange, Change};
+use crate::frames::{is_real_time, Ending};
+use crate::kinds::{
+    length, opcode, ENVELOPE, LAST_NUMBER, MASTER_LENGTH, MATRIX, OBERHEIM, VERSION,
+};
+use crate::nibbles::{first_wide, pack, sum};
+use crate::patch::{test, Patch};
+
+/// What an accepted message holds.
+pub(crate) enum Record {
+    SinglePatch { number: u8, patch: Patch },
+    Master { master: [u8; MASTER_LENGTH] },
+    RemoteEdit { bytes: [u8; 2] },
+    BusEdit { bytes: [u8; 4] },
+    EditBuffer { patch: Patch },
+}
+
+impl Record {
+    /// Judges a message in the order of the table, from 2 on.
+    #[inline]
+    pub fn of(ending: Ending) -> Result<Self, Refusal> {
+        match ending {
+            Ending::Cut => Err(Refusal::plain(CUT)),
+            Ending::Interrupted => Err(Refusal::plain(INTERRUPTED)),
+            // Only data bytes and real time stand inside a message, so one that is all below 80H
+            // has no real time to drop.
+            Ending::Complete(content) if content.is_ascii() => parse(content),
+            Ending::Complete(content) => parse_less_real_time(content),
+        }
+    }
+
+    pub const fn opcode(&self) -> u8 {
+        match self {
+            Self::SinglePatch { .. } => opcode::SINGLE_PATCH,
+            Self::Master { .. } => opcode::MASTER,
+            Self::RemoteEdit { .. } => opcode::REMOTE_EDIT,
+            Self::BusEdit { .. } => opcode::BUS_EDIT,
+            Self::EditBuffer { .. } => opcode::EDIT_BUFFER,
+        }
+    }
+
+    /// A patch number or an edit's bytes, as received; zero where the message has none.
+    pub const fn bytes(&self) -> [u8; 4] {
+        match *self {
+            Self::SinglePatch { number, .. } => [number, 0, 0, 0],
+            Self::RemoteEdit {
+                bytes: [parameter, value],
+            } => [parameter, value, 0, 0],
+            Self::BusEdit { bytes } => bytes,
+            Self::Master { .. } | Self::EditBuffer { .. } => [0; 4],
+        }
+    }
+
+    /// A dump's packed bytes; none for an edit.
+    pub const fn packed(&self) -> &[u8] {
+        match self {
+            Self::SinglePatch { patch, .. } | Self::EditBuffer { patch } => patch,
+            Self::Master { master } => master,
+            Self::RemoteEdit { .. } | Self::BusEdit { .. } => &[],
+        }
+    }
+}
+
+/// Drops real time first. Of a message longer than any kind one byte too many is kept, which is
+/// enough to find its length wrong.
+fn parse_less_real_time(content: &[u8]) -> Result<Record, Refusal> {
+    let mut kept = [0; length::MASTER - 1];
+    let data = content.iter().filter(|&&byte| !is_real_time(byte));
+    let length = kept
+        .iter_mut()
+        .zip(data)
+        .map(|(slot, &byte)| *slot = byte)
+        .count();
+    parse(&kept[..length])
+}
+
+/// Judges the bytes between F0H and F7H, real time dropped.
+#[inline]
+fn parse(content: &[u8]) -> Result<Record, Refusal> {
+    let content = content
+        .strip_prefix(&[OBERHEIM])
+        .ok_or(Refusal::plain(OTHER_MANUFACTURER))?;
+    let content = content
+        .strip_prefix(&[MATRIX])
+        .ok_or(Refusal::plain(OTHER_DEVICE))?;
+    let (&opcode, body) = content.split_first().ok_or(Refusal::plain(OTHER_OPCODE))?;
+    match opcode {
+        opcode::SINGLE_PATCH => single_patch(exact(body)?),
+        opcode::MASTER => master(exact(body)?),
+        opcode::REMOTE_EDIT => remote_edit(*exact(body)?),
+        opcode::BUS_EDIT => bus_edit(*exact(body)?),
+        opcode::EDIT_BUFFER => edit_buffer(exact(body)?),
+        _ => Err(Refusal::plain(OTHER_OPCODE)),
+    }
+}
+
+/// A body of the length its kind has, else 7.
+fn exact<const LENGTH: usize>(body: &[u8]) -> Result<&[u8; LENGTH], Refusal> {
+    body.try_into().map_err(|_| Refusal::plain(WRONG_LENGTH))
+}
+
+fn single_patch(body: &[u8; length::SINGLE_PATCH - ENVELOPE]) -> Result<Record, Refusal> {
+    let &[number, ref data @ .., sum] = body;
+    allow(number <= LAST_NUMBER)?;
+    let patch = packed(data, sum)?;
+    test(&patch)?;
+    Ok(Record::SinglePatch { number, patch })
+}
+
+fn edit_buffer(body: &[u8; length::EDIT_BUFFER - ENVELOPE]) -> Result<Record, Refusal> {
+    let &[zero, ref data @ .., sum] = body;
+    allow(zero == 0)?;
+    let patch = packed(data, sum)?;
+    test(&patch)?;
+    Ok(Record::EditBuffer { patch })
+}
+
+fn master(body: &[u8; length::MASTER - ENVELOPE]) -> Result<Record, Refusal> {
+    let &[version, ref data @ .., sum] = body;
+    allow(version == VERSION)?;
+    let master = packed(data, sum)?;
+    Ok(Record::Master { master })
+}
+
+fn remote_edit(bytes: [u8; length::REMOTE_EDIT - ENVELOPE]) -> Result<Record, Refusal> {
+    let [parameter, value] = bytes;
+    Change::new(parameter, value)?;
+    Ok(Record::RemoteEdit { bytes })
+}
+
+fn bus_edit(bytes: [u8; length::BUS_EDIT - ENVELOPE]) -> Result<Record, Refusal> {
+    let [bus, source, amount, destination] = bytes;
+    BusChange::new(bus, source, amount, destination)?;
+    Ok(Record::BusEdit { bytes })
+}
+
+fn allow(allowed: bool) -> Result<(), Refusal> {
+    allowed.then_some(()).ok_or(Refusal::plain(NOT_ALLOWED))
+}
+
+/// Packs a dump's data: 9 with the first wide byte's index, then 10.
+fn packed<const BYTES: usize>(data: &[u8], received: u8) -> Result<[u8; BYTES], Refusal> {
+    if let Some(index) = first_wide(data) {
+        return Err(Refusal::at(WIDE_DATA, index));
+    }
+    let mut packed = [0; BYTES];
+    pack(data, &mut packed);
+    if sum(&packed) != received {
+        return Err(Refusal::plain(WRONG_SUM));
+    }
+    Ok(packed)
+}

@@ -1,0 +1,266 @@
+//! Inputs for single routines: good ones, bad ones, ones at the edges.
+
+use super::Random;
+use crate::kinds::MASTER_LENGTH;
+use crate::patch::{half_used, BUSES};
+use crate::table::{allows, parameter_of, place_of, PATCH_LENGTH, ROWS};
+use crate::NAME_LENGTH;
+
+/// A patch in range, each bus used or unused as a whole.
+pub fn good_patch(random: &mut Random) -> [u8; PATCH_LENGTH] {
+    let mut patch = [0; PATCH_LENGTH];
+    for (place, byte) in patch.iter_mut().enumerate() {
+        *byte = good_byte(random, place);
+    }
+    for bus in patch[BUSES..].as_chunks_mut::<3>().0 {
+        let [source, _, destination] = bus;
+        if random.one_in(3) {
+            (*source, *destination) = (0, 0);
+        } else if half_used(*source, *destination) {
+            (*source, *destination) = (random.byte_within(1..=20), random.byte_within(1..=31));
+        }
+    }
+    patch
+}
+
+/// A byte its field allows, the ends of the range more often than the rest.
+pub fn good_byte(random: &mut Random, place: usize) -> u8 {
+    let row = &ROWS[place];
+    let (least, greatest) = (row.least.cast_unsigned(), row.greatest.cast_unsigned());
+    match random.below(8) {
+        0 => least,
+        1 => greatest,
+        _ => least.wrapping_add(random.byte_within(0..=greatest.wrapping_sub(least))),
+    }
+}
+
+/// A byte its field doesn't allow: just outside, 128 away, or any.
+pub fn bad_byte(random: &mut Random, place: usize) -> u8 {
+    let row = &ROWS[place];
+    loop {
+        let byte = match random.below(4) {
+            0 => row.greatest.cast_unsigned() + 1,
+            1 => row.least.cast_unsigned().wrapping_sub(1),
+            2 => good_byte(random, place) ^ 0x80,
+            _ => random.byte(),
+        };
+        if !allows(place, byte) {
+            return byte;
+        }
+    }
+}
+
+/// A patch out of range at one to three places, all else good.
+pub fn out_of_range_patch(random: &mut Random) -> [u8; PATCH_LENGTH] {
+    let mut patch = good_patch(random);
+    for _ in 0..random.within(1..=3) {
+        let place = random.below(PATCH_LENGTH);
+        patch[place] = bad_byte(random, place);
+    }
+    patch
+}
+
+/// A patch in range with one to three buses half used.
+pub fn half_used_patch(random: &mut Random) -> [u8; PATCH_LENGTH] {
+    let mut patch = good_patch(random);
+    for _ in 0..random.within(1..=3) {
+        let bus = BUSES + 3 * random.below(10);
+        (patch[bus], patch[bus + 2]) = half_used_bus(random);
+    }
+    patch
+}
+
+/// A source and a destination, one of them zero.
+fn half_used_bus(random: &mut Random) -> (u8, u8) {
+    if random.one_in(2) {
+        (random.byte_within(1..=20), 0)
+    } else {
+        (0, random.byte_within(1..=31))
+    }
+}
+
+/// A patch of the right length, with a fault of field, of bus, or both.
+pub fn bad_patch(random: &mut Random) -> [u8; PATCH_LENGTH] {
+    match random.below(5) {
+        0 | 1 => out_of_range_patch(random),
+        2 | 3 => half_used_patch(random),
+        _ => {
+            let mut patch = half_used_patch(random);
+            let place = random.below(PATCH_LENGTH);
+            patch[place] = bad_byte(random, place);
+            patch
+        }
+    }
+}
+
+/// A lent patch: mostly good, sometimes bad, sometimes of a wrong length.
+pub fn patch(random: &mut Random) -> Vec<u8> {
+    match random.below(8) {
+        0 => {
+            let length = near(random, PATCH_LENGTH);
+            bytes(random, length)
+        }
+        1 | 2 => bad_patch(random).to_vec(),
+        _ => good_patch(random).to_vec(),
+    }
+}
+
+/// A lent master: mostly of the right length.
+pub fn master(random: &mut Random) -> Vec<u8> {
+    let length = if random.one_in(4) {
+        near(random, MASTER_LENGTH)
+    } else {
+        MASTER_LENGTH
+    };
+    bytes(random, length)
+}
+
+/// A lent bank: mostly a few good patches, sometimes all hundred, a bad one among them, or a wrong
+/// length.
+pub fn bank(random: &mut Random) -> Vec<u8> {
+    let count = match random.below(16) {
+        0 => 0,
+        1 => 99,
+        2 => 100,
+        3 => 101,
+        _ => random.within(1..=6),
+    };
+    let mut bank: Vec<u8> = (0..count).flat_map(|_| good_patch(random)).collect();
+    if count > 0 && random.one_in(3) {
+        for _ in 0..random.within(1..=2) {
+            let bad = bad_patch(random);
+            bank[PATCH_LENGTH * random.below(count)..][..PATCH_LENGTH].copy_from_slice(&bad);
+        }
+    }
+    if random.one_in(6) {
+        bank.resize(near(random, bank.len()), 0);
+    }
+    bank
+}
+
+/// A patch number to write: mostly allowed.
+pub fn number(random: &mut Random) -> u8 {
+    match random.below(8) {
+        0 => random.pick(&[99, 100, 127, 128, 255]),
+        1 => random.byte(),
+        _ => random.byte_within(0..=99),
+    }
+}
+
+/// A name to set: mostly good, sometimes with a character not allowed or of a wrong length.
+pub fn name(random: &mut Random) -> Vec<u8> {
+    let length = if random.one_in(6) {
+        near(random, NAME_LENGTH)
+    } else {
+        NAME_LENGTH
+    };
+    let mut name: Vec<u8> = (0..length).map(|_| random.byte_within(32..=95)).collect();
+    if !name.is_empty() && random.one_in(3) {
+        let at = random.below(name.len());
+        name[at] = match random.below(3) {
+            0 => random.byte(),
+            _ => random.pick(&[31, 32, 63, 64, 95, 96, 97, 127, 128, 255]),
+        };
+    }
+    name
+}
+
+/// A remote edit that is allowed: parameter, value.
+pub fn good_edit(random: &mut Random) -> [u8; 2] {
+    let place = random.byte_within(8..=103);
+    let parameter = parameter_of(place).expect("bytes 8 to 103 have parameters");
+    // Seven bits are sent; all stored values of these fields come back from them.
+    [parameter, good_byte(random, place.into()) & 0x7F]
+}
+
+/// A remote edit as handed to a routine: any two bytes, with a liking for the edges.
+pub fn edit(random: &mut Random) -> [u8; 2] {
+    match random.below(6) {
+        0 => [
+            random.pick(&[39, 49, 89, 99, 100, 121, 127, 128]),
+            random.byte(),
+        ],
+        1 => [random.byte(), random.byte()],
+        2 => {
+            let [parameter, value] = good_edit(random);
+            [parameter, value | 0x80]
+        }
+        3 => {
+            let [parameter, _] = good_edit(random);
+            let place = place_of(parameter).expect("a good edit has a place");
+            [parameter, bad_byte(random, place.into()) & 0x7F]
+        }
+        _ => good_edit(random),
+    }
+}
+
+/// A matrix modulation edit that is allowed: bus, source, amount, destination.
+pub fn good_bus_edit(random: &mut Random) -> [u8; 4] {
+    let bus = random.byte_within(0..=9);
+    let amount = random.byte_within(0..=127);
+    if random.one_in(4) {
+        [bus, 0, amount, 0]
+    } else {
+        let source = random.byte_within(1..=20);
+        [bus, source, amount, random.byte_within(1..=31)]
+    }
+}
+
+/// A matrix modulation edit as handed to a routine: any four bytes, with a liking for the edges.
+pub fn bus_edit(random: &mut Random) -> [u8; 4] {
+    let mut edit = good_bus_edit(random);
+    match random.below(6) {
+        0 => {
+            (edit[1], edit[3]) = half_used_bus(random);
+        }
+        1 => {
+            const EDGES: [u8; 12] = [0, 9, 10, 20, 21, 31, 32, 33, 63, 64, 127, 128];
+            for _ in 0..random.within(1..=2) {
+                edit[random.below(4)] = random.pick(&EDGES);
+            }
+        }
+        2 => edit[random.below(4)] = random.byte(),
+        3 => edit = std::array::from_fn(|_| random.byte()),
+        _ => {}
+    }
+    edit
+}
+
+/// A lent output for a routine that may need `needed` bytes: random bytes, as many as needed, one
+/// fewer, none, or more.
+pub fn output(random: &mut Random, needed: usize) -> Vec<u8> {
+    let length = match random.below(8) {
+        0 => needed.saturating_sub(1),
+        1 => random.below(needed + 1),
+        2 => needed,
+        _ => needed + random.below(40),
+    };
+    bytes(random, length)
+}
+
+/// A place to walk from: mostly inside the input, sometimes at or past its end.
+pub fn place(random: &mut Random, input: &[u8]) -> usize {
+    match random.below(8) {
+        0 => 0,
+        1 => input.len(),
+        2 => input.len() + random.below(3),
+        3 => usize::MAX - random.below(2),
+        _ => random.below(input.len() + 1),
+    }
+}
+
+/// Any bytes.
+pub fn bytes(random: &mut Random, length: usize) -> Vec<u8> {
+    (0..length).map(|_| random.byte()).collect()
+}
+
+/// A length that isn't quite the right one.
+fn near(random: &mut Random, right: usize) -> usize {
+    match random.below(5) {
+        0 => 0,
+        1 => right.saturating_sub(1),
+        2 => right + 1,
+        3 => 2 * right,
+        _ => random.below(2 * right + 2),
+    }
+}

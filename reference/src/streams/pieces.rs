@@ -1,0 +1,460 @@
+//! What streams are made of: messages good, bad, foreign and broken, and noise.
+
+use super::damage::Damage;
+use super::{inputs, Random};
+use crate::frames::{END, START};
+use crate::kinds::{opcode, MASTER_LENGTH, MATRIX, OBERHEIM, VERSION};
+use crate::nibbles;
+
+const OPCODES: [u8; 5] = [
+    opcode::SINGLE_PATCH,
+    opcode::MASTER,
+    opcode::REMOTE_EDIT,
+    opcode::BUS_EDIT,
+    opcode::EDIT_BUFFER,
+];
+
+/// Adds one piece to a stream.
+pub(super) type Piece = fn(&mut Random, &mut Vec<u8>);
+
+/// A message of this device: header, opcode, body, end. Nothing is tested.
+fn message(opcode: u8, body: &[u8], out: &mut Vec<u8>) {
+    out.extend_from_slice(&[START, OBERHEIM, MATRIX, opcode]);
+    out.extend_from_slice(body);
+    out.push(END);
+}
+
+/// A dump of packed bytes with their sum. Nothing is tested.
+fn dump(opcode: u8, second: u8, packed: &[u8], out: &mut Vec<u8>) {
+    let mut body = vec![second; 2 * packed.len() + 2];
+    let [_, data @ .., sum] = body.as_mut_slice() else {
+        unreachable!("a body has two bytes at least");
+    };
+    nibbles::unpack(packed, data);
+    *sum = nibbles::sum(packed);
+    message(opcode, &body, out);
+}
+
+/// A single patch or a patch to the edit buffer, of this packed patch.
+fn patch_dump_of(random: &mut Random, patch: &[u8], out: &mut Vec<u8>) {
+    if random.one_in(3) {
+        dump(opcode::EDIT_BUFFER, 0, patch, out);
+    } else {
+        dump(opcode::SINGLE_PATCH, random.byte_within(0..=99), patch, out);
+    }
+}
+
+pub(super) fn single_patch(random: &mut Random, out: &mut Vec<u8>) {
+    let patch = inputs::good_patch(random);
+    dump(
+        opcode::SINGLE_PATCH,
+        random.byte_within(0..=99),
+        &patch,
+        out,
+    );
+}
+
+pub(super) fn edit_buffer(random: &mut Random, out: &mut Vec<u8>) {
+    dump(opcode::EDIT_BUFFER, 0, &inputs::good_patch(random), out);
+}
+
+pub(super) fn master(random: &mut Random, out: &mut Vec<u8>) {
+    let packed = inputs::bytes(random, MASTER_LENGTH);
+    dump(opcode::MASTER, VERSION, &packed, out);
+}
+
+pub(super) fn remote_edit(random: &mut Random, out: &mut Vec<u8>) {
+    message(opcode::REMOTE_EDIT, &inputs::good_edit(random), out);
+}
+
+pub(super) fn bus_edit(random: &mut Random, out: &mut Vec<u8>) {
+    message(opcode::BUS_EDIT, &inputs::good_bus_edit(random), out);
+}
+
+/// A patch dump, numbered or for the edit buffer.
+fn patch_dump(random: &mut Random, out: &mut Vec<u8>) {
+    let patch = inputs::good_patch(random);
+    patch_dump_of(random, &patch, out);
+}
+
+/// An accepted message of any kind.
+pub(super) fn good_message(random: &mut Random, out: &mut Vec<u8>) {
+    const KINDS: [Piece; 5] = [single_patch, edit_buffer, master, remote_edit, bus_edit];
+    random.pick(&KINDS)(random, out);
+}
+
+/// A few dumps numbered from 0, sometimes with the master behind them.
+pub(super) fn bank(random: &mut Random, out: &mut Vec<u8>) {
+    for number in 0..random.byte_within(1..=6) {
+        dump(
+            opcode::SINGLE_PATCH,
+            number,
+            &inputs::good_patch(random),
+            out,
+        );
+    }
+    if random.one_in(2) {
+        master(random, out);
+    }
+}
+
+/// A dump whose number, version or zero isn't allowed.
+pub(super) fn bad_number(random: &mut Random, out: &mut Vec<u8>) {
+    let patch = inputs::good_patch(random);
+    match random.below(3) {
+        0 => dump(
+            opcode::SINGLE_PATCH,
+            random.byte_within(100..=127),
+            &patch,
+            out,
+        ),
+        1 => dump(
+            opcode::EDIT_BUFFER,
+            random.byte_within(1..=127),
+            &patch,
+            out,
+        ),
+        _ => {
+            let version = random.pick(&[0, 1, 2, 4, 127]);
+            let packed = inputs::bytes(random, MASTER_LENGTH);
+            dump(opcode::MASTER, version, &packed, out);
+        }
+    }
+}
+
+/// A patch dump with the right sum and a field out of range.
+pub(super) fn out_of_range(random: &mut Random, out: &mut Vec<u8>) {
+    let patch = inputs::out_of_range_patch(random);
+    patch_dump_of(random, &patch, out);
+}
+
+/// A patch dump with the right sum and a bus half used.
+pub(super) fn half_used(random: &mut Random, out: &mut Vec<u8>) {
+    let patch = inputs::half_used_patch(random);
+    patch_dump_of(random, &patch, out);
+}
+
+/// A high nibble moved by 8, so that the sum stays.
+pub(super) fn high_nibble_moved(random: &mut Random, out: &mut Vec<u8>) {
+    let start = out.len();
+    if random.one_in(3) {
+        master(random, out);
+    } else {
+        patch_dump(random, out);
+    }
+    let bytes = (out.len() - start - 7) / 2;
+    let at = start + 6 + 2 * random.below(bytes);
+    out[at] ^= 0x08;
+}
+
+/// A master with one nibble replaced by any other.
+pub(super) fn master_nibble(random: &mut Random, out: &mut Vec<u8>) {
+    let start = out.len();
+    master(random, out);
+    let at = start + 5 + random.below(2 * MASTER_LENGTH);
+    out[at] ^= random.byte_within(1..=15);
+}
+
+/// A dump with data bytes above 15, the sum right or not.
+pub(super) fn wide_data(random: &mut Random, out: &mut Vec<u8>) {
+    let start = out.len();
+    if random.one_in(3) {
+        master(random, out);
+    } else {
+        patch_dump(random, out);
+    }
+    for _ in 0..random.within(1..=3) {
+        let at = random.within(start + 5..=out.len() - 3);
+        out[at] |= random.pick(&[0x10, 0x20, 0x40, 0x70]);
+    }
+    if random.one_in(2) {
+        let sum = out.len() - 2;
+        out[sum] ^= random.byte_within(1..=127);
+    }
+}
+
+/// A dump with a wrong sum; often that of the nibbles sent in place of the packed bytes.
+pub(super) fn wrong_sum(random: &mut Random, out: &mut Vec<u8>) {
+    let start = out.len();
+    if random.one_in(3) {
+        master(random, out);
+    } else if random.one_in(2) {
+        let patch = inputs::bad_patch(random);
+        patch_dump_of(random, &patch, out);
+    } else {
+        patch_dump(random, out);
+    }
+    let at = out.len() - 2;
+    if random.one_in(3) {
+        out[at] = nibbles::sum(&out[start + 5..at]);
+    } else {
+        out[at] ^= random.byte_within(1..=127);
+    }
+}
+
+/// An edit with any bytes that a message can carry.
+pub(super) fn any_edit(random: &mut Random, out: &mut Vec<u8>) {
+    if random.one_in(2) {
+        let edit = inputs::edit(random).map(|byte| byte & 0x7F);
+        message(opcode::REMOTE_EDIT, &edit, out);
+    } else {
+        let edit = inputs::bus_edit(random).map(|byte| byte & 0x7F);
+        message(opcode::BUS_EDIT, &edit, out);
+    }
+}
+
+/// Some data bytes.
+fn data(random: &mut Random, most: usize, out: &mut Vec<u8>) {
+    let length = random.within(0..=most);
+    out.extend((0..length).map(|_| random.byte_within(0..=127)));
+}
+
+/// A message of another manufacturer, a universal one, or one without a manufacturer.
+pub(super) fn other_manufacturer(random: &mut Random, out: &mut Vec<u8>) {
+    const HEADERS: [&[u8]; 10] = [
+        &[],
+        &[0x00, 0x00, 0x0E],
+        &[0x06, 0x10],
+        &[0x0F, 0x09, 0x00],
+        &[0x11, 0x06, 0x01],
+        &[0x41, 0x10],
+        &[0x43, 0x00],
+        &[0x7E, 0x7F, 0x06, 0x01],
+        &[0x7F, 0x7F, 0x02, 0x01],
+        &[0x01, 0x06, 0x06],
+    ];
+    out.push(START);
+    let header = random.pick(&HEADERS);
+    out.extend_from_slice(header);
+    if !header.is_empty() {
+        data(random, 300, out);
+    }
+    out.push(END);
+}
+
+/// A message of another device of the manufacturer, or of none.
+pub(super) fn other_device(random: &mut Random, out: &mut Vec<u8>) {
+    const HEADERS: [&[u8]; 7] = [
+        &[],
+        &[0x00],
+        &[0x02, 0x01, 0x00],
+        &[0x02, 0x0D, 0x01],
+        &[0x04, 0x01, 0x01],
+        &[0x07, 0x01],
+        &[0x10, 0x06],
+    ];
+    out.extend_from_slice(&[START, OBERHEIM]);
+    let header = random.pick(&HEADERS);
+    out.extend_from_slice(header);
+    if !header.is_empty() {
+        data(random, 300, out);
+    }
+    out.push(END);
+}
+
+/// A message of this device with an opcode not among the five, or with none.
+pub(super) fn other_opcode(random: &mut Random, out: &mut Vec<u8>) {
+    let opcode = random.byte_within(0..=127);
+    if random.one_in(8) || OPCODES.contains(&opcode) {
+        out.extend_from_slice(&[START, OBERHEIM, MATRIX, END]);
+    } else if random.one_in(3) {
+        let start = out.len();
+        good_message(random, out);
+        out[start + 3] = opcode;
+    } else {
+        let opcode = random.pick(&[0x00, 0x02, 0x04, 0x05, 0x07, 0x0A, 0x0C, 0x0E, opcode]);
+        let mut body = Vec::new();
+        data(random, 40, &mut body);
+        message(opcode, &body, out);
+    }
+}
+
+/// A message of the five kinds with a wrong length: one of another's, one near, or any.
+pub(super) fn wrong_length(random: &mut Random, out: &mut Vec<u8>) {
+    let start = out.len();
+    good_message(random, out);
+    match random.below(4) {
+        0 => out[start + 3] = random.pick(&OPCODES),
+        1 => {
+            let at = random.within(start + 4..=out.len() - 1);
+            out.insert(at, random.byte_within(0..=15));
+        }
+        2 => {
+            out.remove(random.within(start + 4..=out.len() - 2));
+        }
+        _ => {
+            let kept = random.within(start + 4..=out.len() - 1);
+            out.truncate(kept);
+            data(random, 400, out);
+            out.push(END);
+        }
+    }
+}
+
+/// Adds real time inside a message that stands at the stream's end.
+fn sprinkle(random: &mut Random, start: usize, out: &mut Vec<u8>) {
+    let most = random.pick(&[1, 3, 20]);
+    for _ in 0..random.within(1..=most) {
+        let at = random.within(start + 1..=out.len() - 1);
+        out.insert(at, random.byte_within(0xF8..=0xFF));
+    }
+}
+
+/// An accepted message with real time inside.
+pub(super) fn real_time_inside(random: &mut Random, out: &mut Vec<u8>) {
+    let start = out.len();
+    good_message(random, out);
+    sprinkle(random, start, out);
+}
+
+/// A refused message with real time inside.
+pub(super) fn real_time_in_refused(random: &mut Random, out: &mut Vec<u8>) {
+    const KINDS: [Piece; 9] = [
+        bad_number,
+        out_of_range,
+        half_used,
+        wide_data,
+        wrong_sum,
+        wrong_length,
+        other_manufacturer,
+        other_device,
+        other_opcode,
+    ];
+    let start = out.len();
+    random.pick(&KINDS)(random, out);
+    sprinkle(random, start, out);
+}
+
+/// A message without its last bytes; what follows, if anything, interrupts it.
+pub(super) fn cut(random: &mut Random, out: &mut Vec<u8>) {
+    let start = out.len();
+    good_message(random, out);
+    out.truncate(random.within(start + 1..=out.len() - 1));
+}
+
+/// A message with a status byte inside: another message's start, a voice message, an undefined one.
+pub(super) fn interrupted(random: &mut Random, out: &mut Vec<u8>) {
+    cut(random, out);
+    match random.below(3) {
+        0 => good_message(random, out),
+        1 => out.extend_from_slice(&[random.byte_within(0x80..=0xEF), 0x40, 0x40]),
+        _ => out.push(random.byte_within(0xF0..=0xF6)),
+    }
+    if random.one_in(2) {
+        data(random, 20, out);
+        out.push(END);
+    }
+}
+
+/// A message with bytes replaced, lost or added anywhere, header and end included.
+pub(super) fn mutated(random: &mut Random, out: &mut Vec<u8>) {
+    let start = out.len();
+    good_message(random, out);
+    for _ in 0..random.within(1..=4) {
+        if start == out.len() {
+            return;
+        }
+        Damage::any(random, out, start..out.len()).apply(out);
+    }
+}
+
+/// A written patch dump with this many damages among its data and checksum.
+fn damaged(random: &mut Random, damages: usize, out: &mut Vec<u8>) {
+    let start = out.len();
+    patch_dump(random, out);
+    for _ in 0..damages {
+        let places = start + 5..out.len() - 1;
+        Damage::any(random, out, places).apply(out);
+    }
+}
+
+/// A written patch dump with one byte replaced.
+pub(super) fn replaced(random: &mut Random, out: &mut Vec<u8>) {
+    let start = out.len();
+    patch_dump(random, out);
+    let at = random.within(start + 5..=out.len() - 2);
+    Damage::replace(random, out, at).apply(out);
+}
+
+/// A written patch dump with one byte lost.
+pub(super) fn lost(random: &mut Random, out: &mut Vec<u8>) {
+    let start = out.len();
+    patch_dump(random, out);
+    let at = random.within(start + 5..=out.len() - 2);
+    Damage::Lose { at }.apply(out);
+}
+
+/// A written patch dump with one byte added.
+pub(super) fn inserted(random: &mut Random, out: &mut Vec<u8>) {
+    let start = out.len();
+    patch_dump(random, out);
+    let at = random.within(start + 5..=out.len() - 2);
+    Damage::insert(random, at).apply(out);
+}
+
+/// A written patch dump with two damages.
+pub(super) fn two_damages(random: &mut Random, out: &mut Vec<u8>) {
+    damaged(random, 2, out);
+}
+
+/// A written patch dump with three damages.
+pub(super) fn three_damages(random: &mut Random, out: &mut Vec<u8>) {
+    damaged(random, 3, out);
+}
+
+/// Up to three bytes of the sort that matters.
+pub(super) fn nearly_nothing(random: &mut Random, out: &mut Vec<u8>) {
+    let length = random.below(4);
+    out.extend((0..length).map(|_| random.pick(&MARKS)));
+}
+
+/// Bytes of any value.
+pub(super) fn noise(random: &mut Random, out: &mut Vec<u8>) {
+    let length = random.pick(&[8, 64, 512]);
+    out.extend((0..random.within(1..=length)).map(|_| random.byte()));
+}
+
+/// Bytes that are F0H, F7H, real time and others in about equal parts.
+pub(super) fn start_rich_noise(random: &mut Random, out: &mut Vec<u8>) {
+    let length = random.within(1..=200);
+    out.extend((0..length).map(|_| match random.below(5) {
+        0 | 1 => START,
+        2 => END,
+        3 => random.byte_within(0xF8..=0xFF),
+        _ => random.byte(),
+    }));
+}
+
+/// The bytes that messages begin and end with, and a few that break them.
+const MARKS: [u8; 16] = [
+    START, START, END, END, OBERHEIM, OBERHEIM, MATRIX, MATRIX, 0x01, 0x03, 0x0B, 0x0D, 0x00, 0x7F,
+    0x80, 0xFE,
+];
+
+/// Noise made of headers, so that short messages come out of it.
+pub(super) fn header_noise(random: &mut Random, out: &mut Vec<u8>) {
+    for _ in 0..random.within(1..=40) {
+        match random.below(4) {
+            0 => out.extend_from_slice(&[START, OBERHEIM, MATRIX]),
+            1 => out.extend_from_slice(&[START, OBERHEIM, MATRIX, opcode::REMOTE_EDIT]),
+            2 => out.push(END),
+            _ => out.push(random.pick(&MARKS)),
+        }
+    }
+}
+
+/// Bytes without an F0H: what may stand between messages.
+pub(super) fn between(random: &mut Random, out: &mut Vec<u8>) {
+    let length = random.within(0..=20);
+    let bytes = (0..length).map(|_| random.byte());
+    out.extend(bytes.filter(|&byte| byte != START));
+}
+
+/// F0H and some data or real time, left open.
+pub(super) fn open(random: &mut Random, out: &mut Vec<u8>) {
+    out.push(START);
+    data(random, 5, out);
+    if random.one_in(2) {
+        out.push(random.byte_within(0xF8..=0xFF));
+    }
+}

@@ -1,0 +1,219 @@
+//! Demand 3, checked for every single damage to a few dumps in a few streams.
+
+use reference::streams::damage::{damageable, Damage};
+use reference::streams::{inputs, stream, Random};
+use reference::{
+    read, reports, set_name, walk, write_edit_buffer, write_master, write_patch, Reading, Report,
+};
+
+use crate::kit::{outcome, report, written, P};
+
+/// The lengths of buffers lent for reading.
+const LENT: [usize; 5] = [0, 133, 134, 172, 200];
+
+/// A stream with a written dump in it.
+struct Undamaged {
+    stream: Vec<u8>,
+    start: usize,
+    end: usize,
+    before: Vec<Report>,
+    after: Vec<Report>,
+}
+
+impl Undamaged {
+    fn new(before: &[u8], dump: &[u8], after: &[u8]) -> Self {
+        let stream = [before, dump, after].concat();
+        let (start, end) = (before.len(), before.len() + dump.len());
+        let (before, rest): (Vec<_>, Vec<_>) =
+            reports(&stream).partition(|report| report.start < start);
+        // The dump has one report, with answer 0.
+        let opcode = usize::from(dump[3]);
+        assert_eq!(rest[0], report(start, end, 0, opcode));
+        let after = rest[1..].to_vec();
+        assert!(after.iter().all(|report| report.start >= end));
+        Self {
+            stream,
+            start,
+            end,
+            before,
+            after,
+        }
+    }
+
+    /// The claim of demand 3 for one damage.
+    fn survives(&self, damage: Damage) {
+        let mut damaged = self.stream.clone();
+        damage.apply(&mut damaged);
+        // Where a place behind the damage has moved to.
+        let moved = |place: usize| place + damaged.len() - self.stream.len();
+
+        let mut found = reports(&damaged).peekable();
+        for before in &self.before {
+            assert_eq!(found.next().as_ref(), Some(before), "{damage:?}");
+            self.reads_alike(before.start, &damaged, before.start, false);
+        }
+        let end = moved(self.end);
+        while let Some(own) = found.next_if(|report| report.start < end) {
+            assert!(own.start >= self.start);
+            assert_ne!(own.answer, 0, "{damage:?}");
+            yields_nothing(&damaged, own.start);
+        }
+        for after in &self.after {
+            let expected = Report {
+                start: moved(after.start),
+                end: moved(after.end),
+                ..*after
+            };
+            assert_eq!(found.next(), Some(expected), "{damage:?}");
+            self.reads_alike(after.start, &damaged, expected.start, true);
+        }
+        assert_eq!(found.next(), None, "{damage:?}");
+    }
+
+    /// Reading from a report before or behind gives the same from both streams.
+    fn reads_alike(&self, place: usize, damaged: &[u8], moved: usize, behind: bool) {
+        for length in LENT {
+            let mut one = [0xA5; 200];
+            let mut other = one;
+            let first = read(&self.stream, place, &mut one[..length]);
+            let second = read(damaged, moved, &mut other[..length]);
+            assert_eq!(one, other);
+            let counted = |reading: Reading, stream: &[u8]| {
+                let from = if behind { stream.len() } else { 0 };
+                (reading.start.abs_diff(from), reading.end.abs_diff(from))
+            };
+            assert_eq!(counted(first, &self.stream), counted(second, damaged));
+            assert_eq!((first.answer, first.detail), (second.answer, second.detail));
+            assert_eq!(first.bytes, second.bytes);
+        }
+    }
+}
+
+/// Reading from a report of the damaged dump gives neither 0 nor 13 and keeps the buffer.
+fn yields_nothing(damaged: &[u8], place: usize) {
+    for length in LENT {
+        let mut buffer = [0xA5; 200];
+        let reading = read(damaged, place, &mut buffer[..length]);
+        assert!(![0, 13].contains(&reading.answer));
+        assert_eq!(reading.bytes, [0; 4]);
+        assert_eq!(buffer, [0xA5; 200]);
+    }
+}
+
+/// Every single damage to a dump in a stream.
+fn survives_all(before: &[u8], dump: &[u8], after: &[u8]) {
+    let undamaged = Undamaged::new(before, dump, after);
+    let places = damageable(undamaged.start);
+    assert_eq!(places.len(), 269);
+    let mut count = 0;
+    for damage in Damage::every(&undamaged.stream, places) {
+        undamaged.survives(damage);
+        count += 1;
+    }
+    assert_eq!(count, 269 * (255 + 248 + 1));
+}
+
+/// P named `BASS 1  `.
+fn bass() -> [u8; 134] {
+    let mut patch = P;
+    assert_eq!(set_name(&mut patch, b"BASS 1  "), outcome(0, 0));
+    patch
+}
+
+#[test]
+fn a_dump_alone() {
+    survives_all(&[], &written(|out| write_patch(0, &bass(), out)), &[]);
+}
+
+#[test]
+fn an_edit_buffer_between_neighbours() {
+    let mut random = Random::new(30);
+    let patch = inputs::good_patch(&mut random);
+    let dump = written(|out| write_edit_buffer(&patch, out));
+    let number = written(|out| write_patch(98, &patch, out));
+    let neighbour = [&[0x41, 0xF7, 0xFE], &number[..]].concat();
+    let edit = [0xF0, 0x10, 0x06, 0x06, 0x15, 0x7F, 0xF7];
+    survives_all(&neighbour, &dump, &[&edit[..], &number].concat());
+}
+
+#[test]
+fn a_dump_between_messages_left_open() {
+    let mut random = Random::new(31);
+    let patch = inputs::good_patch(&mut random);
+    let dump = written(|out| write_patch(99, &patch, out));
+    survives_all(
+        &[0xF0, 0x10, 0x06, 0x01, 0xFE],
+        &dump,
+        &[0x00, 0xF7, 0xF0, 0x10],
+    );
+}
+
+#[test]
+fn a_dump_whose_sum_is_the_manufacturer() {
+    // The sum byte reads as 10H behind an F0H put before it.
+    let mut patch = P;
+    patch[9] = 15;
+    let dump = written(|out| write_patch(6, &patch, out));
+    assert_eq!(dump[273], 0x10);
+    survives_all(&[0xF0], &dump, &[0x06, 0x06, 0x15, 0x7F, 0xF7]);
+}
+
+#[test]
+fn dumps_in_streams_of_many_seeds() {
+    let mut random = Random::new(32);
+    for seed in 0..4_000 {
+        let patch = inputs::good_patch(&mut random);
+        let dump = if random.one_in(2) {
+            written(|out| write_edit_buffer(&patch, out))
+        } else {
+            written(|out| write_patch(random.byte_within(0..=99), &patch, out))
+        };
+        let (before, after) = (stream(2 * seed), stream(2 * seed + 1));
+        if before.len() + after.len() > 10_000 {
+            continue;
+        }
+        let undamaged = Undamaged::new(&before, &dump, &after);
+        for _ in 0..6 {
+            let places = damageable(undamaged.start);
+            undamaged.survives(Damage::any(&mut random, &undamaged.stream, places));
+        }
+    }
+}
+
+#[test]
+fn a_nibble_of_a_master() {
+    // Accepted exactly when it is a high one moved by 8.
+    let mut random = Random::new(33);
+    for _ in 0..20 {
+        let master = inputs::bytes(&mut random, 172);
+        let dump = written(|out| write_master(&master, out));
+        for at in 5..349 {
+            for nibble in (0..16).filter(|&nibble| nibble != dump[at]) {
+                let mut damaged = dump.clone();
+                damaged[at] = nibble;
+                let high = (at - 5) % 2 == 1;
+                let expected = if high && nibble ^ dump[at] == 8 {
+                    report(0, 351, 0, 3)
+                } else {
+                    report(0, 351, 10, 0)
+                };
+                assert_eq!(walk(&damaged, 0), expected);
+            }
+        }
+    }
+}
+
+#[test]
+fn a_high_nibble_of_a_patch_moved_by_8() {
+    // The sum stays; only the range test stops it.
+    let mut random = Random::new(34);
+    for _ in 0..200 {
+        let patch = inputs::good_patch(&mut random);
+        let dump = written(|out| write_patch(0, &patch, out));
+        for place in 0..134 {
+            let mut damaged = dump.clone();
+            damaged[6 + 2 * place] ^= 8;
+            assert_eq!(walk(&damaged, 0), report(0, 275, 11, place));
+        }
+    }
+}

@@ -1,0 +1,67 @@
+//! What the tests share.
+
+use reference::{read, Outcome, Reading, Report};
+
+/// Document 01's P: zeros with byte 76 = 1.
+pub const P: [u8; 134] = {
+    let mut patch = [0; 134];
+    patch[76] = 1;
+    patch
+};
+
+/// An answer with its detail.
+pub const fn outcome(answer: u8, detail: usize) -> Outcome {
+    Outcome { answer, detail }
+}
+
+/// A report written as document 01 prints it.
+pub const fn report(start: usize, end: usize, answer: u8, detail: usize) -> Report {
+    Report {
+        start,
+        end,
+        answer,
+        detail,
+    }
+}
+
+/// Reads with a buffer that must be long enough, and gives what was put into it.
+pub fn record(input: &[u8], place: usize) -> (Reading, Vec<u8>) {
+    let mut buffer = [0xA5; 172];
+    let reading = read(input, place, &mut buffer);
+    let length = match (reading.answer, reading.detail) {
+        (0, 0x01 | 0x0D) => 134,
+        (0, 0x03) => 172,
+        _ => 0,
+    };
+    assert!(buffer[length..].iter().all(|&byte| byte == 0xA5));
+    (reading, buffer[..length].to_vec())
+}
+
+/// What a writer puts into a long enough output; it must be done.
+pub fn written(write: impl FnOnce(&mut [u8]) -> Outcome) -> Vec<u8> {
+    let mut out = vec![0xA5; 400];
+    let Outcome { answer, detail } = write(&mut out);
+    assert_eq!(answer, 0);
+    assert!(out[detail..].iter().all(|&byte| byte == 0xA5));
+    out.truncate(detail);
+    out
+}
+
+/// A message with real time in front of every byte but the first.
+pub fn with_real_time(message: &[u8]) -> Vec<u8> {
+    let mut real_time = (0xF8..=0xFF).cycle();
+    let pairs = message.iter().flat_map(|&byte| {
+        let tick: u8 = real_time.next().unwrap();
+        [tick, byte]
+    });
+    pairs.skip(1).collect()
+}
+
+/// A message's bytes less real time.
+pub fn less_real_time(message: &[u8]) -> Vec<u8> {
+    message
+        .iter()
+        .copied()
+        .filter(|&byte| byte < 0xF8)
+        .collect()
+}

@@ -1,0 +1,16 @@
+//! The second program's tests: the papers' examples, the promises of each routine, the demands.
+
+mod damage;
+mod editing;
+mod examples;
+mod hostile;
+mod kit;
+mod model;
+mod other_machines;
+mod programs;
+mod refusals;
+mod round_trips;
+mod streams;
+mod table;
+mod vectors;
+mod walking;

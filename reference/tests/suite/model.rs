@@ -1,0 +1,182 @@
+//! Document 01 once more, as slowly and plainly as it can be said, to hold the quick code against.
+
+/// The condensed line of document 01 for bytes 8 to 85.
+const LINE: &str = "8:48:2 9:0:6 10:5:6 11:3:6 12:7:2 13:6:2 14:10:6 15:15:6 16:13:6 17:17:2 \
+    18:16:3 19:12:signed 20:20:6 21:8:2 22:9:1 23:18:2 24:19:1 25:2:2 26:21:7 27:24:6 28:25:2 \
+    29:26:2 30:30:6 31:27:6 32:44:6 33:46:2 34:47:1 35:80:6 36:86:2 37:87:1 38:82:0..6 39:83:5 \
+    40:88:0..20 41:84:6 42:90:6 43:96:2 44:97:1 45:92:0..6 46:93:5 47:98:0..20 48:94:6 49:57:3 \
+    50-55:50-55:6 56:59:2 57:58:2 58:67:3 59-64:60-65:6 65:69:2 66:68:2 67:77:3 68-73:70-75:6 \
+    74:79:2 75:78:2 76:33:1..20 77-81:34-38:6 82:40:6 83:41:2 84:42:6 85:43:2";
+
+/// Its parameters of bytes 86 to 103.
+const AMOUNTS: [u8; 18] = [
+    1, 4, 11, 14, 22, 23, 28, 29, 56, 66, 76, 85, 95, 45, 31, 32, 81, 91,
+];
+
+/// Parameter, least and greatest of all 134 places, as document 01 tells them.
+pub fn fields() -> Vec<(Option<u8>, i32, i32)> {
+    let mut fields = vec![(None, 0, 63); 8];
+    for entry in LINE.split_whitespace() {
+        let [places, parameters, range] = entry.split(':').collect::<Vec<_>>()[..] else {
+            panic!("{entry}");
+        };
+        let (least, greatest) = match range {
+            "signed" => (-32, 31),
+            _ => match range.split_once("..") {
+                Some((least, greatest)) => (least.parse().unwrap(), greatest.parse().unwrap()),
+                None => (0, (1 << range.parse::<u32>().unwrap()) - 1),
+            },
+        };
+        for (place, parameter) in span(places).zip(span(parameters)) {
+            assert_eq!(usize::from(place), fields.len());
+            fields.push((Some(parameter), least, greatest));
+        }
+    }
+    fields.extend(AMOUNTS.map(|parameter| (Some(parameter), -64, 63)));
+    for _ in 0..10 {
+        fields.extend([(None, 0, 20), (None, -64, 63), (None, 0, 31)]);
+    }
+    fields
+}
+
+/// `50-55` or `48`.
+fn span(text: &str) -> std::ops::RangeInclusive<u8> {
+    let (first, last) = text.split_once('-').unwrap_or((text, text));
+    first.parse().unwrap()..=last.parse().unwrap()
+}
+
+/// Start, end, answer and detail of every report.
+pub fn reports(input: &[u8]) -> Vec<(usize, usize, u8, usize)> {
+    let fields = fields();
+    let starts = (0..input.len()).filter(|&place| input[place] == 0xF0);
+    starts.map(|start| one(&fields, input, start)).collect()
+}
+
+fn one(fields: &[(Option<u8>, i32, i32)], input: &[u8], start: usize) -> (usize, usize, u8, usize) {
+    let mut place = start + 1;
+    loop {
+        match input.get(place) {
+            None => return (start, place, 2, 0),
+            Some(0xF7) => break,
+            Some(0x80..=0xF6) => return (start, place, 3, 0),
+            Some(_) => place += 1,
+        }
+    }
+    let end = place + 1;
+    let message: Vec<u8> = input[start..end]
+        .iter()
+        .copied()
+        .filter(|&byte| byte < 0xF8)
+        .collect();
+    let (answer, detail) = judge(fields, &message);
+    (start, end, answer, detail)
+}
+
+/// The card from 4 on. The message is complete and has no real time.
+fn judge(fields: &[(Option<u8>, i32, i32)], message: &[u8]) -> (u8, usize) {
+    if message[1] != 0x10 {
+        return (4, 0);
+    }
+    if message[2] != 0x06 {
+        return (5, 0);
+    }
+    let opcode = message[3];
+    let length = match opcode {
+        0x01 | 0x0D => 275,
+        0x03 => 351,
+        0x06 => 7,
+        0x0B => 9,
+        _ => return (6, 0),
+    };
+    if message.len() != length {
+        return (7, 0);
+    }
+    let second = message[4];
+    let place = fields.iter().position(|field| field.0 == Some(second));
+    let allowed = match opcode {
+        0x01 => second <= 99,
+        0x03 => second == 3,
+        0x06 => place.is_some(),
+        0x0B => second <= 9,
+        _ => second == 0,
+    };
+    if !allowed {
+        return (8, 0);
+    }
+    let refusal = match opcode {
+        0x06 => edit(fields, place.unwrap(), second, message[5]),
+        0x0B => bus_edit(second, &message[5..8]),
+        _ => dump(fields, opcode, &message[5..length - 2], message[length - 2]),
+    };
+    refusal.unwrap_or((0, usize::from(opcode)))
+}
+
+/// Seven bits read with bit 6 as the sign.
+fn extended(value: u8) -> i32 {
+    if value < 64 {
+        i32::from(value)
+    } else {
+        i32::from(value) - 128
+    }
+}
+
+fn edit(
+    fields: &[(Option<u8>, i32, i32)],
+    place: usize,
+    parameter: u8,
+    value: u8,
+) -> Option<(u8, usize)> {
+    let value = if parameter == 21 {
+        i32::from(value)
+    } else {
+        extended(value)
+    };
+    let (_, least, greatest) = fields[place];
+    (value < least || value > greatest).then_some((11, place))
+}
+
+fn bus_edit(bus: u8, bytes: &[u8]) -> Option<(u8, usize)> {
+    let bus = usize::from(bus);
+    if bytes[0] > 20 {
+        return Some((11, 104 + 3 * bus));
+    }
+    if bytes[2] > 31 {
+        return Some((11, 106 + 3 * bus));
+    }
+    ((bytes[0] == 0) != (bytes[2] == 0)).then_some((12, bus))
+}
+
+fn dump(
+    fields: &[(Option<u8>, i32, i32)],
+    opcode: u8,
+    data: &[u8],
+    sum: u8,
+) -> Option<(u8, usize)> {
+    if let Some(index) = data.iter().position(|&nibble| nibble > 15) {
+        return Some((9, index));
+    }
+    let packed: Vec<u32> = data
+        .chunks(2)
+        .map(|pair| u32::from(pair[0]) + 16 * u32::from(pair[1]))
+        .collect();
+    if packed.iter().sum::<u32>() % 128 != u32::from(sum) {
+        return Some((10, 0));
+    }
+    if opcode == 0x03 {
+        return None;
+    }
+    for (place, &(_, least, greatest)) in fields.iter().enumerate() {
+        let stored = packed[place] as i32;
+        let value = if least < 0 && stored >= 128 {
+            stored - 256
+        } else {
+            stored
+        };
+        if value < least || value > greatest {
+            return Some((11, place));
+        }
+    }
+    (0..10)
+        .find(|bus| (packed[104 + 3 * bus] == 0) != (packed[106 + 3 * bus] == 0))
+        .map(|bus| (12, bus))
+}

@@ -1,0 +1,82 @@
+//! The stored streams, each with the listing expected for it.
+
+use std::fs;
+use std::path::{Path, PathBuf};
+
+use reference::{apply_bus_edit, apply_edit, listing, reports, show_name};
+
+use crate::kit::{outcome, record, P};
+
+fn directory() -> PathBuf {
+    Path::new(env!("CARGO_MANIFEST_DIR")).join("vectors")
+}
+
+fn vector(name: &str) -> Vec<u8> {
+    fs::read(directory().join(name).with_extension("syx")).unwrap()
+}
+
+/// The files' names, without the ending, that have this ending.
+fn names(ending: &str) -> Vec<String> {
+    let mut names: Vec<String> = fs::read_dir(directory())
+        .unwrap()
+        .map(|entry| entry.unwrap().path())
+        .filter(|path| path.extension().is_some_and(|found| found == ending))
+        .map(|path| path.file_stem().unwrap().to_str().unwrap().to_owned())
+        .collect();
+    names.sort();
+    names
+}
+
+#[test]
+fn each_has_the_listing_expected_for_it() {
+    let streams = names("syx");
+    assert_eq!(streams, names("listing"));
+    assert!(streams.len() >= 20);
+    for name in streams {
+        let expected = fs::read_to_string(directory().join(&name).with_extension("listing"));
+        let found = String::from_utf8(listing(&vector(&name))).unwrap();
+        assert_eq!(found, expected.unwrap(), "{name}");
+    }
+}
+
+/// The name in the dump that starts at a place.
+fn name_at(input: &[u8], place: usize) -> String {
+    let (reading, packed) = record(input, place);
+    assert_eq!(reading.answer, 0);
+    let mut name = [0; 8];
+    assert_eq!(show_name(&packed, &mut name), outcome(0, 8));
+    String::from_utf8(name.to_vec()).unwrap()
+}
+
+#[test]
+fn dumps_carry_their_names() {
+    assert_eq!(name_at(&vector("single_patch"), 0), "BASS 1  ");
+    assert_eq!(name_at(&vector("edit_buffer"), 0), "STRINGS ");
+    let bank = vector("bank_of_three");
+    let found: Vec<String> = reports(&bank)
+        .map(|report| name_at(&bank, report.start))
+        .collect();
+    assert_eq!(found, ["BASS 1  ", "STRINGS ", "LEAD [2]"]);
+}
+
+#[test]
+fn edits_turn_p_into_the_patch_they_say() {
+    let mut patch = P;
+    for stream in ["remote_edit", "bus_edit"].map(vector) {
+        for report in reports(&stream) {
+            let [a, b, c, d] = record(&stream, report.start).0.bytes;
+            let done = match report.detail {
+                0x06 => apply_edit(&mut patch, a, b),
+                _ => apply_bus_edit(&mut patch, a, b, c, d),
+            };
+            assert_eq!(done, outcome(0, 0));
+        }
+    }
+    let mut expected = P;
+    expected[26] = 127;
+    expected[19] = 0xE0;
+    expected[86] = 0xFF;
+    expected[104..107].copy_from_slice(&[1, 0xFF, 1]);
+    expected[131..].copy_from_slice(&[0x14, 0xC0, 0x1F]);
+    assert_eq!(patch, expected);
+}
