@@ -1,0 +1,119 @@
+-- Demand 3: one damaged byte of a patch dump costs that dump alone.
+use mathlib.Core.Path.{_≡_}
+use mathlib.Core.Bool.{Bool, true, false, _&&_}
+use mathlib.Core.List.{List, [], _∷_, _++_, map}
+use Prim.Native.Nat.{ℕ, suc, _+_, _-_, _≤_, _<_}
+use mathlib.Core.Bool.{cond}
+use lib.Dec.{leb, ltb}
+use lib.ListN.{length, take, drop, getD}
+use Rattle.answers.specs.Lists.{All}
+use Rattle.answers.specs.Table.{Verdict, done, answerOf}
+use Rattle.answers.specs.Effect.{outcome, tested}
+use Rattle.frames.specs.Stream.{Report, report, Reading, reports, read}
+use Rattle.patch.specs.Patch.{patchRows}
+use Rattle.messages.specs.Judge.{judge}
+use Rattle.messages.specs.Layout.{dump}
+
+-- A patch dump as our writer writes it: numbered, or for the edit buffer.
+pub data Target : Type 0 where
+  numbered : (number : ℕ) → Target
+  editBuffer : Target
+
+abbrev pub dumpFor : Target → List ℕ → List ℕ
+dumpFor (numbered n) p = dump 0x01 n p
+dumpFor editBuffer p = dump 0x0D 0 p
+
+-- The record of its report: opcode, number (for 01H), and the 134 bytes.
+abbrev pub recordFor : Target → List ℕ → Verdict
+recordFor (numbered n) p = done 0x01 (n ∷ []) p
+recordFor editBuffer p = done 0x0D [] p
+
+-- The writer takes numbers 0 to 99.
+abbrev pub Taken : Target → Type 0
+Taken (numbered n) = n ≤ 99
+Taken editBuffer = Unit {0}
+
+-- One byte replaced, lost, or one added in front of it.
+pub data Damage : Type 0 where
+  replace : (place new : ℕ) → Damage
+  lose : (place : ℕ) → Damage
+  add : (place new : ℕ) → Damage
+
+abbrev pub damaged : Damage → List ℕ → List ℕ
+damaged (replace i y) d = take i d ++ y ∷ drop (suc i) d
+damaged (lose i) d = take i d ++ drop (suc i) d
+damaged (add i y) d = take i d ++ y ∷ drop i d
+
+-- Places 5 to 272 of a dump are its data bytes, 273 its checksum. A byte replaced differs; a byte added is not real time.
+abbrev pub Allowed : Damage → List ℕ → Type 0
+Allowed (replace i y) d = (5 ≤ i) × (i < 274) × (y ≡ getD d i 0 → ⊥)
+Allowed (lose i) d = (5 ≤ i) × (i < 274)
+Allowed (add i y) d = (5 ≤ i) × (i < 274) × (y < 0xF8)
+
+abbrev pub keep : (Report → Bool) → List Report → List Report
+keep t [] = []
+keep t (r ∷ l) = cond (t r) (r ∷ keep t l) (keep t l)
+
+-- The reports that start before place m; from m on and before n; from n on.
+abbrev pub startBefore : ℕ → List Report → List Report
+startBefore m = keep (λ r. ltb (r .start) m)
+
+abbrev pub startWithin : ℕ → ℕ → List Report → List Report
+startWithin m n = keep (λ r. leb m (r .start) && ltb (r .start) n)
+
+abbrev pub startFrom : ℕ → List Report → List Report
+startFrom n = keep (λ r. leb n (r .start))
+
+-- Places counted back from a stream's length.
+abbrev pub countedBack : ℕ → Report → Report
+countedBack n r = report (n - r .start) (n - r .end) (r .verdict)
+
+abbrev pub readingBack : ℕ → Reading → Reading
+readingBack n r = record { start = n - r .start; end = n - r .end; answer = r .answer; detail = r .detail; bytes = r .bytes; lent = r .lent }
+
+-- What reading a record gives at the start of each report of a list, lent the same buffer.
+abbrev pub readings : List ℕ → List ℕ → List Report → List Reading
+readings s lent = map (λ r. read judge s (r .start) lent)
+
+-- A stream that has the bytes d between others, and the three parts of its reports: those that start before d's F0H,
+-- those that start from it on and before d's closing F7H, and those that start behind that F7H.
+module _ (before d behind : List ℕ) where
+  abbrev pub stream : List ℕ
+  stream = before ++ (d ++ behind)
+
+  abbrev pub reportsBefore : List Report
+  reportsBefore = startBefore (length before) (reports judge stream)
+
+  abbrev pub reportsOfDump : List Report
+  reportsOfDump = startWithin (length before) (length before + length d - 1) (reports judge stream)
+
+  abbrev pub reportsAfter : List Report
+  reportsAfter = startFrom (length before + length d) (reports judge stream)
+
+-- The dump d, or the damaged dump e in its place, between any bytes: what is the same and what is not.
+pub record Contained (before d e behind : List ℕ) (v : Verdict) : Type 0 where
+  -- every report of either stream is one before, one of the dump, or one after, in this order
+  pub whole : reports judge (stream before d behind) ≡ reportsBefore before d behind ++ (reportsOfDump before d behind ++ reportsAfter before d behind)
+  pub whole-damaged : reports judge (stream before e behind) ≡ reportsBefore before e behind ++ (reportsOfDump before e behind ++ reportsAfter before e behind)
+  -- the reports before are the same list; the reports after too, with places counted back from the stream's length
+  pub same-before : reportsBefore before e behind ≡ reportsBefore before d behind
+  pub same-after : map (countedBack (length (stream before e behind))) (reportsAfter before e behind)
+      ≡ map (countedBack (length (stream before d behind))) (reportsAfter before d behind)
+  -- the undamaged dump has one report, with answer 0 and its record; no report of the damaged dump has answer 0
+  pub accepted : reportsOfDump before d behind ≡ report (length before) (length before + length d) v ∷ []
+  pub refused : All (λ r. answerOf (r .verdict) ≡ 0 → ⊥) (reportsOfDump before e behind)
+  -- reading at a report before or after gives the same and leaves equal bytes, lent a buffer of any length and content
+  pub read-before : (lent : List ℕ)
+      → readings (stream before e behind) lent (reportsBefore before e behind) ≡ readings (stream before d behind) lent (reportsBefore before d behind)
+  pub read-after : (lent : List ℕ)
+      → map (readingBack (length (stream before e behind))) (readings (stream before e behind) lent (reportsAfter before e behind))
+      ≡ map (readingBack (length (stream before d behind))) (readings (stream before d behind) lent (reportsAfter before d behind))
+  -- reading at a report of the damaged dump gives neither 0 nor 13, and leaves the buffer as it was
+  pub read-damaged : (lent : List ℕ)
+      → All (λ r. (r .answer ≡ 0 → ⊥) × (r .answer ≡ 13 → ⊥) × (r .lent ≡ lent)) (readings (stream before e behind) lent (reportsOfDump before e behind))
+
+-- Demand 3, whole.
+abbrev pub Demand3 : Type 0
+Demand3 = (t : Target) → Taken t → (p : List ℕ) → tested (patchRows p) ≡ outcome 0 0
+    → (before behind : List ℕ) (x : Damage) → Allowed x (dumpFor t p)
+    → Contained before (dumpFor t p) (damaged x (dumpFor t p)) behind (recordFor t p)

@@ -1,0 +1,202 @@
+-- The lengths of the messages and of a bank, how a bank goes on from one patch to the next, and what a writer gives by its tests.
+-- Each law goes by the definition it names, or by the number of patches.
+use mathlib.Core.Path.{_≡_, refl, ap, sym, _∙_}
+use mathlib.Core.Bool.{not}
+use mathlib.Core.List.{List, [], _∷_, _++_, append-assoc, append-nil}
+use mathlib.Core.Option.{Option, none, some}
+use Prim.Native.Nat.{ℕ, zero, suc, _+_, _*_, _/_, _%_, _<_, _≤_}
+use native.Mathlib.Omega.{arith}
+use native.Mathlib.Numerals.{add-one}
+use lib.ListN.{length, take, drop, set, length-append, length-drop}
+use lib.Seq.{length-take-le, drop-drop}
+use lib.Dec.{eqb, ltb}
+use borrow.Author.Tests.{lt-ltb, le-ltb, eq-eqb, eqb-true, not-false}
+use Rattle.answers.specs.Table.{Row, row, rowAt, done, first}
+use Rattle.answers.specs.Effect.{outcome, tested, written, Gives}
+use Rattle.answers.specs.declared.Outcome.{Outcome}
+use Rattle.answers.proofs.Lists.{put-next}
+use Rattle.answers.proofs.Rows.{Silent, Refusals, stopped, first-stopped, first-zero, answered-silent, written-fits, written-short, row-silent}
+use Rattle.nibbles.specs.Nibbles.{nibbles, sum}
+use Rattle.nibbles.proofs.Laws.{length-nibbles}
+use Rattle.patch.specs.Patch.{firstOut, firstHalf, fieldRows, patchRows}
+use Rattle.edits.specs.Edits.{editRows, busRows}
+use Rattle.messages.specs.Layout.{dump, editMessage, busMessage}
+use Rattle.writing.specs.declared.BankOutcome.{BankOutcome}
+use Rattle.writing.specs.Writing.{writingPatch, writingMaster, writingBank, bankFrom, firstBad, Bad, bad, orLater, bankOutcome, bankTested, bankRoom, unlessBad, BankGives}
+
+-- An output after stores of bytes one after the other from place n on.
+abbrev pub puts : ℕ → List ℕ → List ℕ → List ℕ
+puts n [] o = o
+puts n (b ∷ bs) o = puts (n + 1) bs (set o n b)
+
+-- A is written from the start of o; then bs is written behind it.
+pub puts-after : (A bs o xs : List ℕ) (n : ℕ) → length A ≡ n → n + length bs ≤ length o → xs ≡ A ++ drop n o
+    → puts n bs xs ≡ (A ++ bs) ++ drop (n + length bs) o
+puts-after A [] o xs n e h ex = let z : n + 0 ≡ n = omega arith in rw (ex, append-nil, z)
+puts-after A (b ∷ bs) o xs n e h ex =
+    let la : length (A ++ (b ∷ [])) ≡ n + 1 = omega (arith, length-append A (b ∷ [])) in
+    let ly : n + 1 + length bs ≡ n + length (b ∷ bs) = omega arith in
+    let here = ap (λ (l : List ℕ). set l n b) ex ∙ put-next A o n b e (omega arith) in
+    puts-after (A ++ (b ∷ [])) bs o (set xs n b) (n + 1) la (omega arith) here ∙ rw ly (simp append-assoc)
+
+-- A dump has two nibbles to a byte, and seven bytes around them.
+pub length-dump : (o n : ℕ) (p : List ℕ) → length (dump o n p) ≡ 2 * length p + 7
+unfolding dump
+length-dump o n p = simp (length-append, length-nibbles) (omega arith)
+
+-- A dump is its first five bytes, the nibbles, and the sum with F7H.
+pub dump-parts : (o n : ℕ) (p : List ℕ) → dump o n p ≡ ((0xF0 ∷ 0x10 ∷ 0x06 ∷ o ∷ n ∷ []) ++ nibbles p) ++ (sum p ∷ 0xF7 ∷ [])
+unfolding dump
+dump-parts o n p = simp append-assoc
+
+-- A remote edit has seven bytes.
+pub length-edit : (n v : ℕ) → length (editMessage n v) ≡ 7
+unfolding editMessage
+length-edit n v = refl
+
+-- A matrix modulation edit has nine bytes.
+pub length-bus : (b s a d : ℕ) → length (busMessage b s a d) ≡ 9
+unfolding busMessage
+length-bus b s a d = refl
+
+-- A patch of a bank has 134 bytes.
+pub length-patch : (ps : List ℕ) (k : ℕ) → k * 134 + 134 ≤ length ps → length (take 134 (drop (k * 134) ps)) ≡ 134
+length-patch ps k h = length-take-le 134 (drop (k * 134) ps) (simp length-drop (omega arith))
+
+-- A patch's dump has 275 bytes.
+pub length-patch-dump : (o n : ℕ) (p : List ℕ) → length p ≡ 134 → length (dump o n p) ≡ 275
+length-patch-dump o n p e = omega (arith, length-dump o n p)
+
+-- A bank of n patches has n times 275 bytes.
+pub length-bank : (n k : ℕ) (ps : List ℕ) → n * 134 ≤ length ps → length (bankFrom n k ps) ≡ n * 275
+unfolding bankFrom
+length-bank zero k ps h = refl
+length-bank (suc n) k ps h =
+    let one : suc n ≡ n + 1 = sym (add-one n) in
+    let h′ : (n + 1) * 134 ≤ length ps = rw one at h in
+    let here = length-patch-dump 0x01 k (take 134 ps) (length-take-le 134 ps (omega arith)) in
+    let rest = length-bank n (suc k) (drop 134 ps) (simp length-drop (omega arith)) in
+    rw (length-append, here, rest, one) (omega arith)
+
+-- The first n patches of a bank and then m more.
+pub bank-split : (n m k : ℕ) (ps : List ℕ) → bankFrom (n + m) k ps ≡ bankFrom n k ps ++ bankFrom m (n + k) (drop (n * 134) ps)
+unfolding bankFrom
+bank-split zero m k ps =
+    let a : 0 + m ≡ m = omega arith in
+    let b : 0 + k ≡ k = omega arith in
+    rw (a, b)
+bank-split (suc n) m k ps =
+    let a : suc n + m ≡ suc (n + m) = omega arith in
+    let b : suc n + k ≡ n + suc k = omega arith in
+    let c : suc n * 134 ≡ 134 + n * 134 = omega arith in
+    rw (a, b, c, append-assoc, ← drop-drop (n * 134) 134 ps, bank-split n m (suc k) (drop 134 ps))
+
+-- One patch more is one dump more.
+pub bank-more : (n k : ℕ) (ps : List ℕ) → bankFrom (n + 1) k ps ≡ bankFrom n k ps ++ dump 0x01 (n + k) (take 134 (drop (n * 134) ps))
+unfolding bankFrom
+bank-more n k ps = bank-split n 1 k ps ∙ rw append-nil
+
+-- The rows of a patch's fields are refusals.
+pub field-refusals : (p : List ℕ) → Refusals (fieldRows p)
+field-refusals p = ((λ e. omega arith), ((λ e. omega arith), tt))
+
+-- A bad patch is the lowest bad one of those from it on.
+pub bad-here : (n k : ℕ) (ps : List ℕ) → (tested (fieldRows (take 134 ps)) .answer ≡ 0 → ⊥)
+    → firstBad (n + 1) k ps ≡ some (bad k (tested (fieldRows (take 134 ps)) .answer) (tested (fieldRows (take 134 ps)) .detail))
+unfolding firstBad
+bad-here n k ps h = rw (add-one n, first-stopped (fieldRows (take 134 ps)) (done 0 [] []) h)
+
+-- A patch that passes leaves it to those behind it.
+pub bad-next : (n k : ℕ) (ps : List ℕ) → tested (fieldRows (take 134 ps)) .answer ≡ 0 → firstBad (n + 1) k ps ≡ firstBad n (k + 1) (drop 134 ps)
+unfolding firstBad
+bad-next n k ps h = rw (add-one n, add-one k, first-zero (fieldRows (take 134 ps)) (done 0 [] []) (field-refusals (take 134 ps)) h)
+
+-- The rows of a remote edit are refusals.
+pub edit-refusals : (n v : ℕ) → Refusals (editRows n v)
+unfolding editRows
+edit-refusals n v = ((λ e. omega arith), ((λ e. omega arith), tt))
+
+-- The rows of a matrix modulation edit are refusals.
+pub bus-refusals : (b s a d : ℕ) → Refusals (busRows b s a d)
+unfolding busRows
+bus-refusals b s a d = ((λ e. omega arith), ((λ e. omega arith), ((λ e. omega arith), ((λ e. omega arith), tt))))
+
+-- The rows of a lent patch are refusals.
+pub patch-refusals : (p : List ℕ) → Refusals (patchRows p)
+patch-refusals p = ((λ e. omega arith), field-refusals p)
+
+-- Rows that a test answered by 0 say nothing.
+pub passed : (rows : List Row) (t : Outcome) → Refusals rows → t ≡ tested rows → t .answer ≡ 0 → Silent rows
+passed rows t a e z = answered-silent rows a (sym (ap (λ (o : Outcome). o .answer) e) ∙ z)
+
+-- Rows that refuse give their own answer, and every byte is kept.
+pub gives-stopped : (rows : List Row) (bytes out : List ℕ) (r : Outcome) → r ≡ tested rows → (r .answer ≡ 0 → ⊥)
+    → Gives (written rows bytes out) r out
+gives-stopped rows bytes out r e n =
+    let s = stopped rows (row 13 (ltb (length out) (length bytes)) ∷ []) (done 0 [] []) (λ z. n (ap (λ (o : Outcome). o .answer) e ∙ z)) in
+    rw s (record { result = e; lent = refl })
+
+-- Rows that say nothing leave it to the room: 13 where there is too little, and every byte is kept.
+pub gives-short : (rows : List Row) (bytes out : List ℕ) (m : ℕ) (r : Outcome) → length bytes ≡ m → Silent rows → length out < m
+    → r ≡ outcome 13 0 → Gives (written rows bytes out) r out
+gives-short rows bytes out m r l a h e = rw (written-short rows bytes out a (omega arith)) (record { result = e; lent = refl })
+
+-- Where there is room the bytes are written, and those behind them kept.
+pub gives-written : (rows : List Row) (bytes out after : List ℕ) (m : ℕ) (r : Outcome) → length bytes ≡ m → Silent rows → m ≤ length out
+    → r ≡ outcome 0 m → after ≡ bytes ++ drop (length bytes) out → Gives (written rows bytes out) r after
+gives-written rows bytes out after m r l a h e w =
+    rw (written-fits rows bytes out a (omega arith)) (record { result = e ∙ ap (outcome 0) (sym l); lent = w })
+
+-- A numbered patch of 134 bytes and a number of at most 99 are left to the fields and the room.
+pub patch-tested : (n : ℕ) (p out : List ℕ) → length p ≡ 134 → n ≤ 99 → writingPatch n p out ≡ written (fieldRows p) (dump 0x01 n p) out
+unfolding writingPatch
+patch-tested n p out e h = rw (eq-eqb (length p) 134 e, le-ltb 99 n h)
+
+-- A patch whose rows say nothing has 134 bytes.
+pub silent-length : (p : List ℕ) → Silent (patchRows p) → length p ≡ 134
+silent-length p a = eqb-true (length p) 134 (not-false (eqb (length p) 134) (row-silent 7 (not (eqb (length p) 134)) (a .0)))
+
+-- A master of 172 bytes is left to the room.
+pub master-tested : (m out : List ℕ) → length m ≡ 172 → writingMaster m out ≡ written [] (dump 0x03 3 m) out
+unfolding writingMaster
+master-tested m out e = rw (eq-eqb (length m) 172 e)
+
+-- A bank of whole patches, at most 100, is left to its patches and the room.
+pub bank-tested : (ps out : List ℕ) → length ps % 134 ≡ 0 → length ps ≤ 13400
+    → writingBank ps out ≡ unlessBad (firstBad (length ps / 134) 0 ps) (bankFrom (length ps / 134) 0 ps) out
+unfolding writingBank
+bank-tested ps out e h = rw (eq-eqb (length ps % 134) 0 e, le-ltb 13400 (length ps) h)
+
+-- A bank whose test answers 0 has no bad patch.
+pub none-bad : (n k : ℕ) (ps : List ℕ) → bankTested (firstBad n k ps) .answer ≡ 0 → firstBad n k ps ≡ none
+unfolding firstBad
+none-bad zero k ps z = refl
+none-bad (suc n) k ps z = go (firstOut (take 134 ps)) (firstHalf (take 134 ps)) z (none-bad n (suc k) (drop 134 ps))
+  where
+    behind : Option Bad
+    behind = firstBad n (suc k) (drop 134 ps)
+
+    from : Option ℕ → Option ℕ → Option Bad
+    from a b = orLater k (first (rowAt 11 a ∷ rowAt 12 b ∷ []) (done 0 [] [])) behind
+
+    go : (a b : Option ℕ) → bankTested (from a b) .answer ≡ 0 → (bankTested behind .answer ≡ 0 → behind ≡ none) → from a b ≡ none
+    go none none z rest = rest z
+    go none (some d) z rest = absurd (omega arith)
+    go (some d) b z rest = absurd (omega arith)
+
+-- A bad patch refuses the bank, and every byte is kept.
+pub gives-bad : (f : Option Bad) (bytes out : List ℕ) (r : BankOutcome) → r ≡ bankTested f → (r .answer ≡ 0 → ⊥)
+    → BankGives (unlessBad f bytes out) r out
+gives-bad none bytes out r e n = absurd (n (ap (λ (o : BankOutcome). o .answer) e))
+gives-bad (some (bad k m d)) bytes out r e n = record { result = e; lent = refl }
+
+-- A bank that does not fit is refused by 13, and every byte is kept.
+pub bank-short : (bytes out : List ℕ) (m : ℕ) → length bytes ≡ m → length out < m → BankGives (bankRoom bytes out) (bankOutcome 13 0 0) out
+unfolding bankRoom
+bank-short bytes out m l h = rw (lt-ltb (length out) (length bytes) (omega arith)) (record { result = refl; lent = refl })
+
+-- A bank that fits is written, and the bytes behind it kept.
+pub bank-written : (bytes out after : List ℕ) (m : ℕ) → length bytes ≡ m → m ≤ length out → after ≡ bytes ++ drop m out
+    → BankGives (bankRoom bytes out) (bankOutcome 0 m 0) after
+unfolding bankRoom
+bank-written bytes out after m l h w = rw (l, le-ltb (length out) m h) (record { result = refl; lent = w })

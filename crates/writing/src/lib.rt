@@ -1,0 +1,238 @@
+// Messages into a lent output: a writer refuses and keeps every byte, or writes at the output's start and keeps the bytes behind.
+// Below it: answers, frames, nibbles, patch, edits, messages.
+use answers::DONE;
+use answers::NO_ROOM;
+use answers::NOT_ALLOWED;
+use answers::Outcome;
+use answers::WRONG_LENGTH;
+use messages::kinds::BusEdit;
+use messages::kinds::EditBuffer;
+use messages::kinds::MasterParameters;
+use messages::kinds::RemoteEdit;
+use messages::kinds::SinglePatch;
+ghost use mathlib.Core.Path.{_≡_};
+ghost use mathlib.Core.List.{[], _∷_, _++_};
+ghost use Prim.Native.Nat.{_+_, _*_, _/_, _≤_};
+ghost use lib.ListN.{length, drop};
+ghost use Rattle.answers.specs.Effect.{Gives};
+ghost use Rattle.nibbles.specs.Nibbles.{sum};
+ghost use Rattle.messages.specs.Layout.{dump};
+ghost use Rattle.writing.specs.Writing.{writingPatch, writingBuffer, writingMaster, writingEdit, writingBus, writingBank, BankGives, bankFrom, firstBad, bankTested};
+
+// The packed bytes of a patch and of a master.
+const PATCH: usize = 134;
+
+const MASTER: usize = 172;
+
+// A bank has at most 100 patches.
+const BANK: usize = 13_400;
+
+// The version that a master carries.
+const VERSION: u8 = 3;
+
+// What a bank comes to: an answer, its detail, and as place the number of the patch that is refused, 0 with other answers.
+pub struct BankOutcome {
+    pub answer: u8,
+    pub detail: usize,
+    pub place: usize,
+}
+
+// F0H, maker, device, opcode, and the byte behind it. The callers below have seen that the message fits.
+fn put_opening(opcode: u8, byte: u8, out: &mut [u8])
+    requires { ⌜ 5 ≤ length (now out) ⌝ }
+    ensures { λ _. ⌜ now (out .exit) ≡ (0xF0 ∷ 0x10 ∷ 0x06 ∷ opcode ∷ byte ∷ []) ++ drop 5 (now (out .entry)) ⌝ }
+{
+    out[0] = 0xF0;
+    out[1] = 0x10;
+    out[2] = 0x06;
+    out[3] = opcode;
+    out[4] = byte;
+}
+
+// The sum of packed bytes, and F7H. `put_dump` has seen that they fit.
+fn put_closing(packed: &[u8], out: &mut [u8])
+    requires { ⌜ 2 ≤ length (now out) ⌝ }
+    ensures { λ _. ⌜ now (out .exit) ≡ (sum (now (packed .entry)) ∷ 0xF7 ∷ []) ++ drop 2 (now (out .entry)) ⌝ }
+{
+    out[0] = nibbles::checksum(packed);
+    out[1] = 0xF7;
+}
+
+// One dump of any kind at the start of an output. The callers below have seen that it fits.
+fn put_dump(opcode: u8, number: u8, packed: &[u8], out: &mut [u8])
+    requires { ⌜ 2 * length (now packed) + 7 ≤ length (now out) ⌝ }
+    ensures { λ _. ⌜ now (out .exit) ≡ dump opcode number (now (packed .entry)) ++ drop (length (dump opcode number (now (packed .entry)))) (now (out .entry)) ⌝ }
+{
+    put_opening(opcode, number, out);
+    nibbles::unpack_into(packed, &mut out[5..]);
+    let end = 5 + 2 * packed.len();
+    put_closing(packed, &mut out[end..]);
+}
+
+// Writes a numbered patch: 7 for a patch that is not 134 bytes, 8 for a number above 99, the patch's own 11 and 12, then 13. Done
+// with detail 275.
+pub fn write_patch(number: u8, p: &[u8], out: &mut [u8]) -> Outcome
+    ensures { λ r. ⌜ Gives (writingPatch number (now (p .entry)) (now (out .entry))) r (now (out .exit)) ⌝ }
+{
+    if p.len() != PATCH {
+        return answers::refused(WRONG_LENGTH, 0);
+    }
+    if 99 < number {
+        return answers::refused(NOT_ALLOWED, 0);
+    }
+    let fields = patch::checks::test_fields(p);
+    if fields.answer != DONE {
+        return fields;
+    }
+    if out.len() < SinglePatch::LENGTH {
+        return answers::refused(NO_ROOM, 0);
+    }
+    put_dump(SinglePatch::OPCODE, number, p, out);
+    answers::done(SinglePatch::LENGTH)
+}
+
+// Writes a patch to the edit buffer, which has no number: the patch's own 7, 11 and 12, then 13. Done with detail 275.
+pub fn write_edit_buffer(p: &[u8], out: &mut [u8]) -> Outcome
+    ensures { λ r. ⌜ Gives (writingBuffer (now (p .entry)) (now (out .entry))) r (now (out .exit)) ⌝ }
+{
+    let tested = patch::checks::test(p);
+    if tested.answer != DONE {
+        return tested;
+    }
+    if out.len() < EditBuffer::LENGTH {
+        return answers::refused(NO_ROOM, 0);
+    }
+    put_dump(EditBuffer::OPCODE, 0, p, out);
+    answers::done(EditBuffer::LENGTH)
+}
+
+// Writes master parameters, version 3: 7 for a master that is not 172 bytes, then 13. Done with detail 351.
+pub fn write_master(m: &[u8], out: &mut [u8]) -> Outcome
+    ensures { λ r. ⌜ Gives (writingMaster (now (m .entry)) (now (out .entry))) r (now (out .exit)) ⌝ }
+{
+    if m.len() != MASTER {
+        return answers::refused(WRONG_LENGTH, 0);
+    }
+    if out.len() < MasterParameters::LENGTH {
+        return answers::refused(NO_ROOM, 0);
+    }
+    put_dump(MasterParameters::OPCODE, VERSION, m, out);
+    answers::done(MasterParameters::LENGTH)
+}
+
+// Writes a remote edit: its own 8 and 11, then 13. Done with detail 7.
+pub fn write_edit(parameter: u8, value: u8, out: &mut [u8]) -> Outcome
+    ensures { λ r. ⌜ Gives (writingEdit parameter value (now (out .entry))) r (now (out .exit)) ⌝ }
+{
+    let tested = edits::test_edit(parameter, value);
+    if tested.answer != DONE {
+        return tested;
+    }
+    if out.len() < RemoteEdit::LENGTH {
+        return answers::refused(NO_ROOM, 0);
+    }
+    put_opening(RemoteEdit::OPCODE, parameter, out);
+    out[5] = value;
+    out[6] = 0xF7;
+    answers::done(RemoteEdit::LENGTH)
+}
+
+// Writes a matrix modulation edit: its own 8, 14, 11 and 12, then 13. Done with detail 9.
+pub fn write_bus_edit(bus: u8, source: u8, amount: u8, destination: u8, out: &mut [u8]) -> Outcome
+    ensures { λ r. ⌜ Gives (writingBus bus source amount destination (now (out .entry))) r (now (out .exit)) ⌝ }
+{
+    let tested = edits::test_bus_edit(bus, source, amount, destination);
+    if tested.answer != DONE {
+        return tested;
+    }
+    if out.len() < BusEdit::LENGTH {
+        return answers::refused(NO_ROOM, 0);
+    }
+    put_opening(BusEdit::OPCODE, bus, out);
+    out[5] = source;
+    out[6] = amount;
+    out[7] = destination;
+    out[8] = 0xF7;
+    answers::done(BusEdit::LENGTH)
+}
+
+// The lowest bad patch of a bank: its own 11 or 12 with its number as place, or done with zeros.
+fn test_bank(ps: &[u8]) -> BankOutcome
+    ensures { λ r. ⌜ r ≡ bankTested (firstBad (length (now (ps .entry)) / 134) 0 (now (ps .entry))) ⌝ }
+{
+    let n = ps.len() / PATCH;
+    let mut k: usize = 0;
+    while k < n {
+        let from = k * PATCH;
+        let to = from + PATCH;
+        let tested = patch::checks::test_fields(&ps[from..to]);
+        if tested.answer != DONE {
+            return BankOutcome {
+                answer: tested.answer,
+                detail: tested.detail,
+                place: k,
+            };
+        }
+        k += 1;
+    }
+    BankOutcome {
+        answer: DONE,
+        detail: 0,
+        place: 0,
+    }
+}
+
+// Dump after dump, each from its own place. `write_bank` has tested the length and the room.
+fn put_bank(ps: &[u8], out: &mut [u8])
+    requires { ⌜ (length (now ps) ≤ 13400) × (length (now ps) / 134 * 275 ≤ length (now out)) ⌝ }
+    ensures { λ _. ⌜ now (out .exit) ≡ bankFrom (length (now (ps .entry)) / 134) 0 (now (ps .entry)) ++ drop (length (now (ps .entry)) / 134 * 275) (now (out .entry)) ⌝ }
+{
+    let count = ps.len() / PATCH;
+    let mut k: usize = 0;
+    while k < count {
+        let from = k * PATCH;
+        let to = from + PATCH;
+        let at = k * SinglePatch::LENGTH;
+        put_dump(SinglePatch::OPCODE, k as u8, &ps[from..to], &mut out[at..]);
+        k += 1;
+    }
+}
+
+// Writes a bank of 0 to 100 patches end to end, numbered from 0: 7 for a length that is not a multiple of 134 or above 13,400, then
+// the lowest bad patch's own 11 or 12 with its number as place, then 13. Done with the bytes written as detail.
+pub fn write_bank(ps: &[u8], out: &mut [u8]) -> BankOutcome
+    ensures { λ r. ⌜ BankGives (writingBank (now (ps .entry)) (now (out .entry))) r (now (out .exit)) ⌝ }
+{
+    if ps.len() % PATCH != 0 {
+        return BankOutcome {
+            answer: WRONG_LENGTH,
+            detail: 0,
+            place: 0,
+        };
+    }
+    if BANK < ps.len() {
+        return BankOutcome {
+            answer: WRONG_LENGTH,
+            detail: 0,
+            place: 0,
+        };
+    }
+    let tested = test_bank(ps);
+    if tested.answer != DONE {
+        return tested;
+    }
+    let size = ps.len() / PATCH * SinglePatch::LENGTH;
+    if out.len() < size {
+        return BankOutcome {
+            answer: NO_ROOM,
+            detail: 0,
+            place: 0,
+        };
+    }
+    put_bank(ps, out);
+    BankOutcome {
+        answer: DONE,
+        detail: size,
+        place: 0,
+    }
+}
