@@ -5,3 +5,5 @@ pub mod Walk
 pub mod Order
 pub mod OneByte
 pub mod Handing
+pub mod Blocks
+pub mod Complete

@@ -3,3 +3,4 @@ pub mod Stream
 pub mod Scan
 pub mod Order
 pub mod Extent
+pub mod Blocks

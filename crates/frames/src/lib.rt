@@ -4,13 +4,14 @@ use answers::CUT;
 use answers::DONE;
 use answers::INTERRUPTED;
 ghost use mathlib.Core.Path.{_≡_};
-ghost use mathlib.Core.Bool.{cond};
+ghost use mathlib.Core.Bool.{cond, false};
 ghost use lib.Dec.{eqb};
 ghost use mathlib.Core.List.{_++_};
 ghost use Prim.Native.Nat.{ℕ, _+_, _<_, _≤_};
 ghost use lib.ListN.{length, take, drop};
 ghost use Rattle.frames.specs.Bytes.{withoutRealTime};
 ghost use Rattle.frames.specs.Extent.{ahead, startFrom, spanOf, Kept};
+ghost use Rattle.frames.specs.Blocks.{None, Ahead, Onward};
 
 // What stands behind an F0H: how many bytes before the first in 80H..F7H, how many of them are real time,
 // and the answer that their end gives: DONE for F7H, INTERRUPTED or CUT.
@@ -20,11 +21,44 @@ pub struct Span {
     pub ending: u8,
 }
 
+// Whether an F0H stands among the 16 bytes from `at` on: without a branch, so that they are seen at once. The caller below has seen
+// that there are 16.
+fn block_starts(bytes: &[u8], at: usize) -> bool
+    requires { ⌜ at + 16 ≤ length (now bytes) ⌝ }
+    ensures { λ r. ⌜ (r ≡ false → None (λ b. b ≡ 0xF0) at 16 (now (bytes .entry))) ⌝ }
+{
+    let mut found: u8 = 0;
+    let mut j: usize = 0;
+    while j < 16 {
+        if bytes[at + j] == 0xF0 {
+            found = 1;
+            j += 1;
+        } else {
+            j += 1;
+        }
+    }
+    found == 1
+}
+
+// How many bytes the blocks of 16 at the start take that have no F0H.
+fn skip_blocks(rest: &[u8]) -> usize
+    ensures { λ r. ⌜ Ahead (now (rest .entry)) r ⌝ }
+{
+    let mut i: usize = 0;
+    while i + 16 <= rest.len() {
+        if block_starts(rest, i) {
+            return i;
+        }
+        i += 16;
+    }
+    i
+}
+
 // How many bytes stand before the first F0H; all of them where there is none.
 pub fn find_start(rest: &[u8]) -> usize
     ensures { λ r. ⌜ r ≡ ahead (now (rest .entry)) ⌝ }
 {
-    let mut i: usize = 0;
+    let mut i: usize = skip_blocks(rest);
     while i < rest.len() {
         if rest[i] == 0xF0 {
             return i;
@@ -54,11 +88,44 @@ fn ending(b: u8) -> u8
     INTERRUPTED
 }
 
+// Whether one of the 16 bytes from `at` on is above 7FH. The caller below has seen that there are 16.
+fn block_ends(bytes: &[u8], at: usize) -> bool
+    requires { ⌜ at + 16 ≤ length (now bytes) ⌝ }
+    ensures { λ r. ⌜ (r ≡ false → None (λ b. 0x80 ≤ b) at 16 (now (bytes .entry))) ⌝ }
+{
+    let mut found: u8 = 0;
+    let mut j: usize = 0;
+    while j < 16 {
+        if 0x7F < bytes[at + j] {
+            found = 1;
+            j += 1;
+        } else {
+            j += 1;
+        }
+    }
+    found == 1
+}
+
+// How far the blocks of 16 data bytes from `from` on reach. The caller below gives an index of the bytes.
+fn skip_data(rest: &[u8], from: usize) -> usize
+    requires { ⌜ from ≤ length (now rest) ⌝ }
+    ensures { λ r. ⌜ Onward (now (rest .entry)) from r ⌝ }
+{
+    let mut i: usize = from;
+    while i + 16 <= rest.len() {
+        if block_ends(rest, i) {
+            return i;
+        }
+        i += 16;
+    }
+    i
+}
+
 // How far a message runs, from the bytes behind its F0H.
 pub fn find_end(rest: &[u8]) -> Span
     ensures { λ r. ⌜ r ≡ spanOf (now (rest .entry)) ⌝ }
 {
-    let mut i: usize = 0;
+    let mut i: usize = skip_data(rest, 0);
     let mut noise: usize = 0;
     while i < rest.len() {
         let b = rest[i];
@@ -66,7 +133,7 @@ pub fn find_end(rest: &[u8]) -> Span
             i += 1;
         } else if 0xF7 < b {
             noise += 1;
-            i += 1;
+            i = skip_data(rest, i + 1);
         } else {
             return Span {
                 length: i,

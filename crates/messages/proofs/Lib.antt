@@ -7,3 +7,5 @@ pub mod DumpLaws
 pub mod Replaced
 pub mod Master
 pub mod Accepted
+pub mod Written
+pub mod AsWritten

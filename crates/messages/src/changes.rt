@@ -13,7 +13,7 @@ ghost use Rattle.messages.specs.Judge.{kindVerdict};
 ghost use Rattle.messages.specs.Judged.{judged};
 
 // A remote edit: 7, then the tests that writing and applying it make too.
-pub fn judge_edit(content: &[u8]) -> Judged
+pub(crate) fn judge_edit(content: &[u8]) -> Judged
     ensures { λ r. ⌜ r ≡ judged (kindVerdict remoteEdit (framed (now (content .entry)))) ⌝ }
 {
     if content.len() + 2 != RemoteEdit::LENGTH {
@@ -30,7 +30,7 @@ pub fn judge_edit(content: &[u8]) -> Judged
 }
 
 // A matrix modulation edit: 7, then the tests that writing and applying it make too.
-pub fn judge_bus_edit(content: &[u8]) -> Judged
+pub(crate) fn judge_bus_edit(content: &[u8]) -> Judged
     ensures { λ r. ⌜ r ≡ judged (kindVerdict busEdit (framed (now (content .entry)))) ⌝ }
 {
     if content.len() + 2 != BusEdit::LENGTH {

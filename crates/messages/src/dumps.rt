@@ -62,7 +62,7 @@ fn check_numbered(content: &[u8], top: u8) -> Outcome
 }
 
 // A single patch: 7, then 8 to 12.
-pub fn judge_single(content: &[u8]) -> Judged
+pub(crate) fn judge_single(content: &[u8]) -> Judged
     ensures { λ r. ⌜ r ≡ judged (kindVerdict singlePatch (framed (now (content .entry)))) ⌝ }
 {
     if content.len() + 2 != SinglePatch::LENGTH {
@@ -77,7 +77,7 @@ pub fn judge_single(content: &[u8]) -> Judged
 }
 
 // A patch for the edit buffer: 7, then 8 to 12.
-pub fn judge_buffer(content: &[u8]) -> Judged
+pub(crate) fn judge_buffer(content: &[u8]) -> Judged
     ensures { λ r. ⌜ r ≡ judged (kindVerdict editBuffer (framed (now (content .entry)))) ⌝ }
 {
     if content.len() + 2 != EditBuffer::LENGTH {
@@ -104,7 +104,7 @@ fn check_master(content: &[u8]) -> Outcome
 }
 
 // A master: 7, then 8 to 10. It has no field test.
-pub fn judge_master(content: &[u8]) -> Judged
+pub(crate) fn judge_master(content: &[u8]) -> Judged
     ensures { λ r. ⌜ r ≡ judged (kindVerdict masterParameters (framed (now (content .entry)))) ⌝ }
 {
     if content.len() + 2 != MasterParameters::LENGTH {

@@ -14,7 +14,7 @@ pub struct Judged {
 }
 
 // Refused: no bytes come with the answer.
-pub fn refused(answer: u8, detail: usize) -> Judged
+pub(crate) fn refused(answer: u8, detail: usize) -> Judged
     ensures { λ r. ⌜ r ≡ judgedAs answer detail 0 0 0 0 ⌝ }
 {
     Judged {
@@ -28,7 +28,7 @@ pub fn refused(answer: u8, detail: usize) -> Judged
 }
 
 // Accepted, with the bytes that come with the answer.
-pub fn accepted(opcode: u8, first: u8, second: u8, third: u8, fourth: u8) -> Judged
+pub(crate) fn accepted(opcode: u8, first: u8, second: u8, third: u8, fourth: u8) -> Judged
     ensures { λ r. ⌜ r ≡ judgedAs 0 opcode first second third fourth ⌝ }
 {
     Judged {

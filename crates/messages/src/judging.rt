@@ -41,7 +41,7 @@ fn judge_kind(opcode: u8, content: &[u8]) -> Judged
     refused(OTHER_OPCODE, 0)
 }
 
-// What a complete message comes to, by document 01's table from 4 on.
+// What a complete message comes to, by document 01's table from 4 on. The content is already without its real time.
 pub fn judge_content(content: &[u8]) -> Judged
     ensures { λ r. ⌜ r ≡ judged (judge (framed (now (content .entry)))) ⌝ }
 {

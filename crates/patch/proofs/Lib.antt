@@ -5,3 +5,4 @@ pub mod Below
 pub mod Between
 pub mod Rules
 pub mod NameLaws
+pub mod Buses

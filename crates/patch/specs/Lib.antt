@@ -2,3 +2,4 @@ pub mod Fields
 pub mod Patch
 pub mod Names
 pub mod Columns
+pub mod Values

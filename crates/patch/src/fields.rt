@@ -752,7 +752,7 @@ pub fn parameter_of(place: BytePlace) -> FoundParameter
     FoundParameter::Of(Parameter(n))
 }
 
-// A byte lies between two bounds, as bytes or, where the least is above the greatest, as signed bytes.
+// A byte lies between two bounds; where the least is above the greatest, the range goes on from 255 to 0.
 pub fn lies_between(least: u8, greatest: u8, b: u8) -> bool
     ensures { λ r. ⌜ r ≡ between least greatest b ⌝ }
 {

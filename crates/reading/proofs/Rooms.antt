@@ -106,7 +106,7 @@ module _ (s : List ℕ) (place : ℕ) where
       let m = length (take 64 all) in
       let fits : 4 * m ≤ length (take 256 old) = omega (arith, take-most 64 all) in
       let kept : drop (4 * m) (take 256 old) ++ drop 256 old ≡ drop (4 * m) old =
-          sym (drop-append-le (4 * m) (take 256 old) (drop 256 old) fits) ∙ ap (drop (4 * m)) (take-append-drop 256 old) in
+      sym (drop-append-le (4 * m) (take 256 old) (drop 256 old) fits) ∙ ap (drop (4 * m)) (take-append-drop 256 old) in
       record {
         count = rw same (rw lent at (l .count));
         numbers = rw same (rw (rw lent at (l .numbers), append-assoc (flat (take 64 all)) (drop (4 * m) (take 256 old)) (drop 256 old), kept) refl);

@@ -40,7 +40,7 @@ fn judge_body(body: &[u8], noise: usize) -> Judged
 }
 
 // The report of the message whose F0H stands at `start`, before `rest`. The callers below have found its end.
-pub fn report_at(rest: &[u8], start: usize, span: Span) -> Report
+pub(crate) fn report_at(rest: &[u8], start: usize, span: Span) -> Report
     requires { ⌜ (start + 1 + length (now rest) < 2 ^ 64) × (span ≡ spanOf (now rest)) ⌝ }
     ensures { λ r. ⌜ r ≡ numbersOf (messageAt judge start (now (rest .entry))) ⌝ }
 {

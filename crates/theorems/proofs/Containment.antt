@@ -50,7 +50,7 @@ lay before w behind m e a =
 
 module _ (before d behind : List ℕ) (m : List Report) (laid : Laid before d behind m) where
   -- The three parts of the stream's reports.
-  parts : Parted (length before) (length before + length d - 1) (length before + length d) (reports judge (stream before d behind))
+  pub parts : Parted (length before) (length before + length d - 1) (length before + length d) (reports judge (stream before d behind))
       (ahead judge 0 outside before) m (scan judge (length before + length d) outside behind)
   parts =
       let end = length before + length d in
@@ -58,7 +58,7 @@ module _ (before d behind : List ℕ) (m : List Report) (laid : Laid before d be
       (parted (length before) (end - 1) end (omega (arith, laid .long)) (omega arith) (ahead judge 0 outside before) m (scan judge end outside behind)
       (ahead-before judge before) (laid .placed) (order-from (scan judge end outside behind) end end _ (omega arith) (scan-order judge behind end)))
 
-  whole-parts : reports judge (stream before d behind) ≡ reportsBefore before d behind ++ (reportsOfDump before d behind ++ reportsAfter before d behind)
+  pub whole-parts : reports judge (stream before d behind) ≡ reportsBefore before d behind ++ (reportsOfDump before d behind ++ reportsAfter before d behind)
   whole-parts = rw (parts .before, parts .within, parts .behind) (laid .whole)
 
   -- Counted back, the reports after depend on the bytes behind alone.

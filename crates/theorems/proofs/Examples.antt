@@ -1,9 +1,7 @@
 -- The listing example of document 01, computed: the reports of eleven bytes, with their places and answers. And a patch of which demand 3 speaks.
 use mathlib.Core.Path.{_≡_, refl}
-use mathlib.Core.List.{List, [], _∷_, _++_}
-use Prim.Native.Nat.{ℕ}
+use mathlib.Core.List.{[], _∷_}
 use native.Mathlib.Omega.{arith}
-use lib.ListN.{replicate}
 use Rattle.answers.specs.Table.{done, refused}
 use Rattle.answers.specs.Effect.{outcome, tested}
 use Rattle.frames.specs.Bytes.{kindOf, body, withoutRealTime}
@@ -14,6 +12,7 @@ use Rattle.edits.specs.Edits.{extended, storedFor, editRows}
 use Rattle.messages.specs.Kinds.{kindOf as kindOfOpcode}
 use Rattle.messages.specs.Judge.{judge}
 use Rattle.messages.specs.Layout.{dump}
+use Rattle.theorems.specs.Examples.{P}
 use Rattle.theorems.specs.Damage.{numbered, lose, damaged, Contained}
 use Rattle.theorems.proofs.Damage.{demand-3}
 
@@ -23,14 +22,10 @@ pub listing-example : reports judge (0x41 ∷ 0xF0 ∷ 0xF7 ∷ 0xF0 ∷ 0x10 �
 unfolding reports walk firstFrom messageAt body withoutRealTime kindOf judge kindOfOpcode editRows placeOf searchFrom fields storedFor extended inRange between
 listing-example = refl
 
--- The patch of zeros with byte 76 = 1.
-abbrev plainPatch : List ℕ
-plainPatch = replicate 76 0 ++ 1 ∷ replicate 57 0
-
-taken : tested (patchRows plainPatch) ≡ outcome 0 0
+taken : tested (patchRows P) ≡ outcome 0 0
 unfolding outFrom halfFrom halfUsed inRange between fields
 taken = refl
 
 -- Demand 3 at one case: its first data byte lost, the same dump behind it.
-pub damage-example : Contained [] (dump 0x01 0 plainPatch) (damaged (lose 5) (dump 0x01 0 plainPatch)) (dump 0x01 0 plainPatch) (done 0x01 (0 ∷ []) plainPatch)
-damage-example = demand-3 (numbered 0) (omega arith) plainPatch taken [] (dump 0x01 0 plainPatch) (lose 5) (omega arith)
+pub damage-example : Contained [] (dump 0x01 0 P) (damaged (lose 5) (dump 0x01 0 P)) (dump 0x01 0 P) (done 0x01 (0 ∷ []) P)
+damage-example = demand-3 (numbered 0) (omega arith) P taken [] (dump 0x01 0 P) (lose 5) (omega arith)

@@ -4,3 +4,7 @@ pub mod Containment
 pub mod Damage
 pub mod Answers
 pub mod Examples
+pub mod Writers
+pub mod Bank
+pub mod RoundTrips
+pub mod Starred

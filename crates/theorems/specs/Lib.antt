@@ -1,2 +1,4 @@
 pub mod Damage
 pub mod Answers
+pub mod RoundTrips
+pub mod Examples

@@ -4,6 +4,7 @@ use mathlib.Core.List.{List, []}
 use Prim.Native.Nat.{ℕ, _≤_, _+_, _-_}
 use native.Mathlib.Omega.{arith}
 use lib.ListN.{length, drop, getD, drop-of-length-le}
+use borrow.Author.Needs.{needs}
 use Rattle.frames.specs.Bytes.{body, realTimeIn}
 use Rattle.frames.specs.Extent.{spanOf, endingOf}
 use Rattle.frames.specs.declared.Span.{Span}
@@ -19,12 +20,12 @@ abbrev μ-loop : tie.MeasureT-loop
 μ-loop rest i₀ noise₀ i noise = length rest - i
 
 loop-holds : tie.Need-loop-holds Inv-loop μ-loop
-loop-holds c = omega arith
+loop-holds c = let o = c .skip-data .ensures in omega (arith, o .within, o .counted, o .quiet)
 
 loop-again : tie.Need-loop-again Inv-loop μ-loop
 loop-again c =
     let at = c .before .before .before in
-    let s = at .before .before .args .rest .now in
+    let s = at .before .before .before .args .rest .now in
     let i = at .loop .i in
     let e = body-data s i (c .before .before .loop-test .taken) (c .if1 .taken) in
     let quiet : getD s i 0 ≤ 0xF7 = omega arith in
@@ -32,11 +33,13 @@ loop-again c =
 
 loop-again-2 : tie.Need-loop-again-2 Inv-loop μ-loop
 loop-again-2 c =
-    let at = c .before .before .before .before in
-    let s = at .before .before .args .rest .now in
+    let then2 = c .before in
+    let at = then2 .before .before .before .before in
+    let s = at .before .before .before .args .rest .now in
     let i = at .loop .i in
-    let e = body-real-time s i (c .before .before .before .loop-test .taken) (c .if2 .taken) in
-    omega (arith, ap length e, ap realTimeIn e ∙ real-time-more (getD s i 0) (body (drop (i + 1) s)) (c .if2 .taken))
+    let e = body-real-time s i (then2 .before .before .before .loop-test .taken) (then2 .if2 .taken) in
+    let o = c .skip-data2 .ensures in
+    omega (arith, o .on, o .within, o .counted, o .quiet, ap length e, ap realTimeIn e ∙ real-time-more (getD s i 0) (body (drop (i + 1) s)) (then2 .if2 .taken))
 
 -- Where nothing is left of the body, the counts are whole, and what stands there is how the message ends.
 counted : (t : List ℕ) (i noise e : ℕ) (u : List ℕ) → u ≡ [] → length (body t) ≡ i + length u → realTimeIn (body t) ≡ noise + realTimeIn u → endingOf (drop i t) ≡ e
@@ -50,7 +53,7 @@ counted t i noise e u none l n end =
 returns : tie.Need-returns Inv-loop μ-loop
 returns c =
     let at = c .before .before .before .before .before in
-    let s = at .before .before .args .rest .now in
+    let s = at .before .before .before .args .rest .now in
     let i = at .loop .i in
     let h = c .before .before .before .before .loop-test .taken in
     counted s i (at .loop .noise) (c .ending .result) (body (drop i s))
@@ -61,7 +64,7 @@ returns c =
 returns-2 : tie.Need-returns-2 Inv-loop μ-loop
 returns-2 c =
     let at = c .before in
-    let s = at .before .before .args .rest .now in
+    let s = at .before .before .before .args .rest .now in
     let i = at .loop .i in
     counted s i (at .loop .noise) 2 (body (drop i s))
     (body-end s i (c .loop-test .left)) (at .loop .inv .2) (at .loop .inv .3) (rw (drop-of-length-le s (c .loop-test .left)))
@@ -72,6 +75,7 @@ find-end-spec =
     (tie.spec
     Inv-loop
     μ-loop
+    (λ c κs. search needs)
     loop-holds
     (λ c. omega arith)
     (λ c. omega arith)
@@ -79,7 +83,8 @@ find-end-spec =
     loop-again
     (λ c. omega arith)
     (λ c. omega arith)
-    (λ c. omega arith)
+    (λ c κs. omega arith)
+    (λ c. omega (arith, c .skip-data2 .ensures .on))
     loop-again-2
     (λ c κs. omega arith)
     returns

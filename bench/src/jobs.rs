@@ -1,0 +1,256 @@
+//! The jobs. Each is done once by the library and once by the second program's own routines, and
+//! both give a number made of all results.
+
+use std::hint::black_box;
+
+use compare::{ffi, A_CALL};
+use reference::streams::{inputs, Random};
+use reference::{BANK_PATCHES, PATCH_LENGTH};
+
+/// A job in both ways.
+pub struct Job {
+    pub name: &'static str,
+    /// How much one pass does, in bytes or edits.
+    pub amount: usize,
+    /// What a million of them in a second is called.
+    pub unit: &'static str,
+    pub library: Box<dyn FnMut() -> usize>,
+    pub plain: Box<dyn FnMut() -> usize>,
+}
+
+const SEED: u64 = 1000;
+/// The sizes of the streams. Noise is long enough that no processor learns its branches by heart; F0H
+/// only has far more reports to a byte.
+const BANKS: usize = 1 << 18;
+const NOISE: usize = 1 << 20;
+const STARTS: usize = 1 << 14;
+/// How many patches are tested and edits are applied in a pass.
+const MANY: usize = 1000;
+
+pub fn all() -> [Job; 8] {
+    let mut random = Random::new(SEED);
+    let bank = good_patches(&mut random, BANK_PATCHES);
+    let banks: Vec<u8> = bank_dumps(&bank).into_iter().cycle().take(BANKS).collect();
+    let noise = inputs::bytes(&mut random, NOISE);
+    let starts = vec![0xF0; STARTS];
+    let patches = good_patches(&mut random, MANY);
+    let edits = (0..MANY).map(|_| inputs::good_edit(&mut random)).collect();
+    let bus_edits = (0..MANY)
+        .map(|_| inputs::good_bus_edit(&mut random))
+        .collect();
+    let patch = inputs::good_patch(&mut random);
+    [
+        reports("reports-banks", banks.clone()),
+        reports("reports-noise", noise),
+        reports("reports-starts", starts),
+        read(banks),
+        test_patch(patches),
+        write_bank(bank),
+        apply_edits(patch, edits),
+        apply_bus_edits(patch, bus_edits),
+    ]
+}
+
+fn good_patches(random: &mut Random, count: usize) -> Vec<u8> {
+    (0..count)
+        .flat_map(|_| inputs::good_patch(random))
+        .collect()
+}
+
+fn bank_dumps(bank: &[u8]) -> Vec<u8> {
+    let mut dumps = vec![0; 275 * BANK_PATCHES];
+    let written = reference::write_bank(bank, &mut dumps);
+    assert_eq!(written.answer, 0, "good patches");
+    dumps
+}
+
+/// Adds a result to those so far.
+fn add(all: usize, result: usize) -> usize {
+    all.rotate_left(1) ^ result
+}
+
+/// The reports of a stream: the library's in calls of 64, the second program's by its iterator.
+fn reports(name: &'static str, input: Vec<u8>) -> Job {
+    let other = input.clone();
+    Job {
+        name,
+        amount: input.len(),
+        unit: "MB/s",
+        library: Box::new(move || {
+            let input = black_box(input.as_slice());
+            let mut room = [0; 4 * A_CALL];
+            let (mut all, mut place) = (0, 0);
+            loop {
+                let made = ffi::reports(input, place, &mut room);
+                let (reports, _) = room.as_chunks::<4>();
+                for &[start, end, answer, detail] in &reports[..made] {
+                    all = add(all, start ^ end ^ answer ^ detail);
+                    place = end;
+                }
+                if made == 0 {
+                    return all;
+                }
+            }
+        }),
+        plain: Box::new(move || {
+            reference::reports(black_box(other.as_slice())).fold(0, |all, r| {
+                add(all, r.start ^ r.end ^ usize::from(r.answer) ^ r.detail)
+            })
+        }),
+    }
+}
+
+/// Every record of a bank stream, into one buffer.
+fn read(input: Vec<u8>) -> Job {
+    let other = input.clone();
+    let (mut buffer, mut other_buffer) = ([0; 172], [0; 172]);
+    Job {
+        name: "read-banks",
+        amount: input.len(),
+        unit: "MB/s",
+        library: Box::new(move || {
+            let input = black_box(input.as_slice());
+            let mut numbers = [0; 8];
+            let (mut all, mut place) = (0, 0);
+            while ffi::read(input, place, &mut buffer, &mut numbers) != 1 {
+                let [start, end, answer, detail, first, ..] = numbers;
+                black_box(&buffer);
+                all = add(all, start ^ end ^ answer ^ detail ^ first);
+                place = end;
+            }
+            add(all, usize::from(buffer[133]))
+        }),
+        plain: Box::new(move || {
+            let input = black_box(other.as_slice());
+            let (mut all, mut place) = (0, 0);
+            loop {
+                let r = reference::read(input, place, &mut other_buffer);
+                if r.answer == 1 {
+                    return add(all, usize::from(other_buffer[133]));
+                }
+                black_box(&other_buffer);
+                let [first, ..] = r.bytes;
+                let answer = usize::from(r.answer);
+                all = add(
+                    all,
+                    r.start ^ r.end ^ answer ^ r.detail ^ usize::from(first),
+                );
+                place = r.end;
+            }
+        }),
+    }
+}
+
+/// Good patches, tested one by one.
+fn test_patch(patches: Vec<u8>) -> Job {
+    let other = patches.clone();
+    Job {
+        name: "test-patch",
+        amount: patches.len(),
+        unit: "MB/s",
+        library: Box::new(move || {
+            let mut numbers = [0; 2];
+            let patches = black_box(patches.as_slice()).chunks_exact(PATCH_LENGTH);
+            patches.fold(0, |all, patch| {
+                let answer = ffi::test_patch(patch, &mut numbers);
+                add(all, usize::from(answer) ^ numbers[1])
+            })
+        }),
+        plain: Box::new(move || {
+            let patches = black_box(other.as_slice()).chunks_exact(PATCH_LENGTH);
+            patches.fold(0, |all, patch| {
+                let tested = reference::test_patch(patch);
+                add(all, usize::from(tested.answer) ^ tested.detail)
+            })
+        }),
+    }
+}
+
+/// A hundred patches into one output.
+fn write_bank(bank: Vec<u8>) -> Job {
+    let other = bank.clone();
+    let mut out = vec![0; 275 * BANK_PATCHES];
+    let mut other_out = out.clone();
+    Job {
+        name: "write-bank",
+        amount: out.len(),
+        unit: "MB/s",
+        library: Box::new(move || {
+            let mut numbers = [0; 3];
+            ffi::write_bank(black_box(&bank), black_box(&mut out), &mut numbers);
+            let [answer, detail, place] = numbers;
+            answer ^ detail ^ place ^ usize::from(out[273])
+        }),
+        plain: Box::new(move || {
+            let written = reference::write_bank(black_box(&other), black_box(&mut other_out));
+            let answer = usize::from(written.answer);
+            answer ^ written.detail ^ written.place ^ usize::from(other_out[273])
+        }),
+    }
+}
+
+/// Remote edits, one after the other on one patch.
+fn apply_edits(mut patch: [u8; PATCH_LENGTH], edits: Vec<[u8; 2]>) -> Job {
+    let other = edits.clone();
+    let mut other_patch = patch;
+    Job {
+        name: "apply-edits",
+        amount: edits.len(),
+        unit: "million edits/s",
+        library: Box::new(move || {
+            let mut numbers = [0; 2];
+            let patch = black_box(&mut patch);
+            let all = black_box(&edits)
+                .iter()
+                .fold(0, |all, &[parameter, value]| {
+                    let answer = ffi::apply_edit(patch, parameter, value, &mut numbers);
+                    add(all, usize::from(answer) ^ numbers[1])
+                });
+            sum(all, patch)
+        }),
+        plain: Box::new(move || {
+            let patch = black_box(&mut other_patch);
+            let all = black_box(&other)
+                .iter()
+                .fold(0, |all, &[parameter, value]| {
+                    let applied = reference::apply_edit(patch, parameter, value);
+                    add(all, usize::from(applied.answer) ^ applied.detail)
+                });
+            sum(all, patch)
+        }),
+    }
+}
+
+/// Matrix modulation edits, one after the other on one patch.
+fn apply_bus_edits(mut patch: [u8; PATCH_LENGTH], edits: Vec<[u8; 4]>) -> Job {
+    let other = edits.clone();
+    let mut other_patch = patch;
+    Job {
+        name: "apply-bus-edits",
+        amount: edits.len(),
+        unit: "million edits/s",
+        library: Box::new(move || {
+            let mut numbers = [0; 2];
+            let patch = black_box(&mut patch);
+            let all = black_box(&edits).iter().fold(0, |all, &edit| {
+                let answer = ffi::apply_bus_edit(patch, edit, &mut numbers);
+                add(all, usize::from(answer) ^ numbers[1])
+            });
+            sum(all, patch)
+        }),
+        plain: Box::new(move || {
+            let patch = black_box(&mut other_patch);
+            let all = black_box(&other).iter().fold(0, |all, &edit| {
+                let [bus, source, amount, destination] = edit;
+                let applied = reference::apply_bus_edit(patch, bus, source, amount, destination);
+                add(all, usize::from(applied.answer) ^ applied.detail)
+            });
+            sum(all, patch)
+        }),
+    }
+}
+
+/// Adds a patch's bytes to the results.
+fn sum(all: usize, patch: &[u8]) -> usize {
+    patch.iter().fold(all, |all, &byte| add(all, byte.into()))
+}

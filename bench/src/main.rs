@@ -1,0 +1,108 @@
+//! The library against the second program's own routines: same input, same run, rounds in turn.
+//!
+//!     bench [--quick]
+//!
+//! For each job a line with the throughput of both, and a line `ratio NAME X`: the library's median
+//! time on the processor over plain Rust's. Both are built for release, for the same processor
+//! (x86-64 without extensions where nothing else is set). Both get the same input and buffers of the
+//! same length, which are touched before the first round and not cleared between calls. Every result
+//! is used, and both programs' results are held against each other before anything is timed.
+
+mod jobs;
+
+use std::env;
+use std::hint::black_box;
+use std::time::Duration;
+
+use compare::clock;
+use jobs::Job;
+
+/// How long and how often to measure.
+struct Effort {
+    sample: Duration,
+    rounds: usize,
+}
+
+const FULL: Effort = Effort {
+    sample: Duration::from_millis(2),
+    rounds: 501,
+};
+const QUICK: Effort = Effort {
+    sample: Duration::from_millis(1),
+    rounds: 101,
+};
+
+fn main() {
+    let words: Vec<String> = env::args().skip(1).collect();
+    let words: Vec<&str> = words.iter().map(String::as_str).collect();
+    let effort = match words[..] {
+        [] => FULL,
+        ["--quick"] => QUICK,
+        _ => panic!("bench [--quick]"),
+    };
+    let Effort { sample, rounds } = effort;
+    println!("{rounds} rounds in turn, about {sample:?} each, the median; buffers not cleared between calls");
+    for mut job in jobs::all() {
+        measure(&mut job, &effort);
+    }
+}
+
+fn measure(job: &mut Job, effort: &Effort) {
+    assert_eq!(
+        (job.library)(),
+        (job.plain)(),
+        "{}: the results differ",
+        job.name
+    );
+    let passes = passes(&mut job.plain, effort.sample);
+    let mut times = [Vec::new(), Vec::new()];
+    for round in 0..effort.rounds {
+        // Who comes first takes turns too.
+        for turn in 0..2 {
+            let who = (round + turn) % 2;
+            let run = if who == 0 {
+                &mut job.library
+            } else {
+                &mut job.plain
+            };
+            times[who].push(time(run, passes));
+        }
+    }
+    let [library, plain] = times.map(|times| median(times).as_secs_f64() / passes as f64);
+    let Job {
+        name, amount, unit, ..
+    } = job;
+    let rate = |seconds: f64| *amount as f64 / seconds / 1e6;
+    println!(
+        "{name}: library {:.1} {unit}, plain Rust {:.1} {unit}",
+        rate(library),
+        rate(plain)
+    );
+    println!("ratio {name} {:.2}", library / plain);
+}
+
+/// How many passes fill a sample.
+fn passes(run: &mut dyn FnMut() -> usize, sample: Duration) -> usize {
+    let mut passes = 1;
+    loop {
+        let taken = time(run, passes);
+        if taken >= sample / 2 {
+            let wanted = sample.as_secs_f64() / taken.as_secs_f64() * passes as f64;
+            return wanted.ceil() as usize;
+        }
+        passes *= 2;
+    }
+}
+
+fn time(run: &mut dyn FnMut() -> usize, passes: usize) -> Duration {
+    let before = clock::now();
+    for _ in 0..passes {
+        black_box(run());
+    }
+    clock::now() - before
+}
+
+fn median(mut times: Vec<Duration>) -> Duration {
+    times.sort();
+    times[times.len() / 2]
+}

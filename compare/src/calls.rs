@@ -1,0 +1,225 @@
+//! Inputs for each routine: good, damaged and hostile, with slices of every length around the
+//! needed one.
+
+use reference::streams::{self, inputs, Random};
+use reference::{reports, BANK_PATCHES, NAME_LENGTH, PATCH_LENGTH};
+
+use crate::lent::{Call, Lent};
+
+/// A length around the needed one: mostly enough, often exact or within four, sometimes any.
+fn around(random: &mut Random, needed: usize) -> usize {
+    match random.below(8) {
+        0 => needed.saturating_sub(random.within(1..=4)),
+        1 => random.below(needed + 1),
+        2 | 3 => needed,
+        4 => needed + random.within(1..=4),
+        _ => needed + random.below(40),
+    }
+}
+
+/// A slice for this many results: mostly enough, sometimes short by one or more.
+fn results(random: &mut Random, needed: usize) -> Lent<usize> {
+    let length = match random.below(8) {
+        0 => random.below(needed),
+        1..=3 => needed,
+        _ => needed + random.below(8),
+    };
+    Lent::filled(random, length)
+}
+
+/// A call that lends nothing but room for results.
+fn call(random: &mut Random, needed: usize) -> Call {
+    Call {
+        first: Lent::filled(random, 0),
+        second: Lent::filled(random, 0),
+        numbers: results(random, needed),
+        place: 0,
+        bytes: [0; 4],
+    }
+}
+
+/// A stream and a place in it: the start of a message, or anywhere, past the end too.
+fn stream(random: &mut Random) -> (Vec<u8>, usize) {
+    let input = streams::stream(random.draw());
+    let place = if random.one_in(2) {
+        let some = random.below(6);
+        let report = reports(&input).take(some + 1).last();
+        report.map_or(0, |report| match random.below(8) {
+            0 => report.end,
+            1 => report.start + 1,
+            _ => report.start.saturating_sub(random.below(3)),
+        })
+    } else {
+        inputs::place(random, &input)
+    };
+    (input, place)
+}
+
+pub fn walk(random: &mut Random) -> Call {
+    let (input, place) = stream(random);
+    Call {
+        first: Lent::new(random, &input),
+        place,
+        ..call(random, 4)
+    }
+}
+
+pub fn read(random: &mut Random) -> Call {
+    let (input, place) = stream(random);
+    let needed = random.pick(&[0, 134, 134, 134, 172, 172]);
+    let length = around(random, needed);
+    Call {
+        first: Lent::new(random, &input),
+        second: Lent::filled(random, length),
+        place,
+        ..call(random, 8)
+    }
+}
+
+pub fn reports_from(random: &mut Random) -> Call {
+    let (input, place) = stream(random);
+    let length = match random.below(8) {
+        0 => random.below(5),
+        1 => around(random, 256),
+        2 => random.below(600),
+        _ => random.below(64),
+    };
+    Call {
+        first: Lent::new(random, &input),
+        numbers: Lent::filled(random, length),
+        place,
+        ..call(random, 4)
+    }
+}
+
+/// A patch in `first`, and room for this many bytes in `second`.
+fn patch(random: &mut Random, needed: usize) -> Call {
+    let patch = inputs::patch(random);
+    let length = around(random, needed);
+    Call {
+        first: Lent::new(random, &patch),
+        second: Lent::filled(random, length),
+        ..call(random, 2)
+    }
+}
+
+pub fn test_patch(random: &mut Random) -> Call {
+    let mut call = patch(random, 0);
+    // Half of them anything but usual: one byte anywhere replaced by any.
+    if random.one_in(2) && call.first.get().len() == PATCH_LENGTH {
+        let place = random.below(PATCH_LENGTH);
+        call.first.get_mut()[place] = random.byte();
+    }
+    call
+}
+
+pub fn set_name(random: &mut Random) -> Call {
+    let name = inputs::name(random);
+    Call {
+        second: Lent::new(random, &name),
+        ..patch(random, 0)
+    }
+}
+
+pub fn show_name(random: &mut Random) -> Call {
+    patch(random, NAME_LENGTH)
+}
+
+pub fn apply_edit(random: &mut Random) -> Call {
+    Call {
+        bytes: two(inputs::edit(random)),
+        ..patch(random, 0)
+    }
+}
+
+pub fn apply_bus_edit(random: &mut Random) -> Call {
+    Call {
+        bytes: inputs::bus_edit(random),
+        ..patch(random, 0)
+    }
+}
+
+pub fn write_patch(random: &mut Random) -> Call {
+    Call {
+        bytes: [inputs::number(random), 0, 0, 0],
+        ..patch(random, 275)
+    }
+}
+
+pub fn write_edit_buffer(random: &mut Random) -> Call {
+    patch(random, 275)
+}
+
+pub fn write_master(random: &mut Random) -> Call {
+    let master = inputs::master(random);
+    let length = around(random, 351);
+    Call {
+        first: Lent::new(random, &master),
+        second: Lent::filled(random, length),
+        ..call(random, 2)
+    }
+}
+
+pub fn write_edit(random: &mut Random) -> Call {
+    let length = around(random, 7);
+    Call {
+        second: Lent::filled(random, length),
+        bytes: two(inputs::edit(random)),
+        ..call(random, 2)
+    }
+}
+
+pub fn write_bus_edit(random: &mut Random) -> Call {
+    let length = around(random, 9);
+    Call {
+        second: Lent::filled(random, length),
+        bytes: inputs::bus_edit(random),
+        ..call(random, 2)
+    }
+}
+
+pub fn write_bank(random: &mut Random) -> Call {
+    let bank = inputs::bank(random);
+    let patches = (bank.len() / PATCH_LENGTH).min(BANK_PATCHES);
+    let length = around(random, 275 * patches);
+    Call {
+        first: Lent::new(random, &bank),
+        second: Lent::filled(random, length),
+        ..call(random, 3)
+    }
+}
+
+/// The remote edit of a number below 65,536: each parameter with each value, on a good patch.
+pub fn every_edit(random: &mut Random, number: usize) -> Call {
+    let patch = inputs::good_patch(random);
+    let [parameter, value, ..] = number.to_le_bytes();
+    Call {
+        first: Lent::new(random, &patch),
+        second: Lent::filled(random, 7),
+        numbers: Lent::filled(random, 2),
+        place: 0,
+        bytes: two([parameter, value]),
+    }
+}
+
+/// A call with one of the 256 bytes.
+pub fn every_byte(random: &mut Random, number: usize) -> Call {
+    Call {
+        bytes: [number as u8, 0, 0, 0],
+        ..call(random, 1)
+    }
+}
+
+/// A good patch with the byte at one of its places replaced, by each of the 256.
+pub fn every_field(random: &mut Random, number: usize) -> Call {
+    let mut patch = inputs::good_patch(random);
+    patch[number >> 8] = number as u8;
+    Call {
+        first: Lent::new(random, &patch),
+        ..call(random, 2)
+    }
+}
+
+fn two([parameter, value]: [u8; 2]) -> [u8; 4] {
+    [parameter, value, 0, 0]
+}

@@ -1,0 +1,105 @@
+//! What is lent to a call: slices between guards, all filled so that a stray write shows.
+
+use std::fmt;
+
+use reference::streams::Random;
+
+/// How many elements stand before and behind each slice.
+const GUARD: usize = 16;
+
+/// A slice with guards on both sides. Two are the same only if their guards are too.
+#[derive(Clone, PartialEq, Eq)]
+pub struct Lent<T> {
+    whole: Vec<T>,
+}
+
+impl<T: Copy + Fill> Lent<T> {
+    /// Lends these elements.
+    pub fn new(random: &mut Random, elements: &[T]) -> Self {
+        let mut whole: Vec<T> = (0..GUARD).map(|_| T::fill(random)).collect();
+        whole.extend_from_slice(elements);
+        whole.extend((0..GUARD).map(|_| T::fill(random)));
+        Self { whole }
+    }
+
+    /// Lends this many elements of any value.
+    pub fn filled(random: &mut Random, length: usize) -> Self {
+        let elements: Vec<T> = (0..length).map(|_| T::fill(random)).collect();
+        Self::new(random, &elements)
+    }
+
+    /// The slice.
+    pub fn get(&self) -> &[T] {
+        &self.whole[GUARD..self.whole.len() - GUARD]
+    }
+
+    /// The slice, to be written.
+    pub fn get_mut(&mut self) -> &mut [T] {
+        let end = self.whole.len() - GUARD;
+        &mut self.whole[GUARD..end]
+    }
+}
+
+/// Elements that a slice can be filled with before it is lent.
+pub trait Fill: Sized {
+    /// Any element.
+    fn fill(random: &mut Random) -> Self;
+}
+
+impl Fill for u8 {
+    fn fill(random: &mut Random) -> Self {
+        random.byte()
+    }
+}
+
+impl Fill for usize {
+    fn fill(random: &mut Random) -> Self {
+        random.draw() as Self
+    }
+}
+
+impl fmt::Debug for Lent<u8> {
+    fn fmt(&self, f: &mut fmt::Formatter<'_>) -> fmt::Result {
+        let hex = |f: &mut fmt::Formatter<'_>, bytes: &[u8]| {
+            bytes.iter().try_for_each(|byte| write!(f, "{byte:02X}"))
+        };
+        let end = self.whole.len() - GUARD;
+        hex(f, &self.whole[..GUARD])?;
+        f.write_str(" [")?;
+        hex(f, self.get())?;
+        f.write_str("] ")?;
+        hex(f, &self.whole[end..])
+    }
+}
+
+impl fmt::Debug for Lent<usize> {
+    fn fmt(&self, f: &mut fmt::Formatter<'_>) -> fmt::Result {
+        let end = self.whole.len() - GUARD;
+        let (before, behind) = (&self.whole[..GUARD], &self.whole[end..]);
+        write!(f, "{before:?} [{:?}] {behind:?}", self.get())
+    }
+}
+
+/// All that a call is given.
+#[derive(Clone, PartialEq, Eq)]
+pub struct Call {
+    /// What the routine reads first: the input, patch, bank or master.
+    pub first: Lent<u8>,
+    /// What it reads or writes next: the buffer, output or name.
+    pub second: Lent<u8>,
+    /// Where results go.
+    pub numbers: Lent<usize>,
+    /// The place to walk from.
+    pub place: usize,
+    /// A patch number, or an edit's bytes.
+    pub bytes: [u8; 4],
+}
+
+impl fmt::Display for Call {
+    fn fmt(&self, f: &mut fmt::Formatter<'_>) -> fmt::Result {
+        writeln!(f, "    first   {:?}", self.first)?;
+        writeln!(f, "    second  {:?}", self.second)?;
+        writeln!(f, "    numbers {:?}", self.numbers)?;
+        write!(f, "    place {}, bytes {:02X?}", self.place, self.bytes)
+    }
+}

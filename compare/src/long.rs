@@ -1,0 +1,229 @@
+//! Long inputs: the reports agree with the second program's, and time per byte does not grow.
+//!
+//! Growth is measured with the same memory traffic on both sides: the long input in one go, against
+//! as many bytes taken as inputs of 64 KiB, one after the other. Rounds take turns, and the median
+//! of each counts, in time on the processor. How fast one input of 64 KiB is that stays in the cache is printed beside them.
+
+use std::fs;
+use std::hint::black_box;
+use std::time::Duration;
+
+use compare::{clock, ffi, A_CALL};
+use reference::streams::{inputs, Random};
+use reference::{Report, BANK_PATCHES};
+
+/// The size of the short inputs.
+const SHORT: usize = 1 << 16;
+/// By how much time per byte may grow.
+const MOST_GROWTH: f64 = 1.3;
+/// What the random inputs depend on.
+const SEED: u64 = 1000;
+
+/// A kind of long input.
+struct Kind {
+    name: &'static str,
+    make: fn(usize) -> Vec<u8>,
+    /// What is done to each input of 64 KiB cut from the long one.
+    shorten: fn(&mut [u8]),
+}
+
+static KINDS: [Kind; 6] = [
+    Kind {
+        name: "F0H only",
+        make: |size| vec![0xF0; size],
+        shorten: |_| {},
+    },
+    Kind {
+        name: "00H only",
+        make: |size| vec![0x00; size],
+        shorten: |_| {},
+    },
+    Kind {
+        name: "F0H, then FEH",
+        make: |size| {
+            let mut input = vec![0xFE; size];
+            input[0] = 0xF0;
+            input
+        },
+        shorten: |input| input[0] = 0xF0,
+    },
+    Kind {
+        name: "F0H and FEH in turn",
+        make: |size| [0xF0, 0xFE].repeat(size / 2),
+        shorten: |_| {},
+    },
+    Kind {
+        name: "banks",
+        make: banks,
+        shorten: |_| {},
+    },
+    Kind {
+        name: "random bytes",
+        make: |size| {
+            let mut random = Random::new(SEED);
+            inputs::bytes(&mut random, size)
+        },
+        shorten: |_| {},
+    },
+];
+
+/// Banks of a hundred good patches end to end, the last one cut.
+fn banks(size: usize) -> Vec<u8> {
+    let mut random = Random::new(SEED);
+    let patches: Vec<u8> = (0..BANK_PATCHES)
+        .flat_map(|_| inputs::good_patch(&mut random))
+        .collect();
+    let mut bank = vec![0; 275 * BANK_PATCHES];
+    let written = reference::write_bank(&patches, &mut bank);
+    assert_eq!(written.answer, 0, "a hundred good patches");
+    bank.into_iter().cycle().take(size).collect()
+}
+
+/// Goes through the reports of an input, giving each to the function until it says stop.
+type Through = fn(&[u8], &mut dyn FnMut(&[usize; 4]) -> bool);
+
+/// By calls for 64 reports each.
+fn by_reports(input: &[u8], each: &mut dyn FnMut(&[usize; 4]) -> bool) {
+    let mut room = [0; 4 * A_CALL];
+    let mut place = 0;
+    loop {
+        let made = ffi::reports(input, place, &mut room);
+        let (reports, _) = room.as_chunks::<4>();
+        for report in &reports[..made] {
+            if !each(report) {
+                return;
+            }
+        }
+        match reports[..made].last() {
+            Some(&[_, end, ..]) => place = end,
+            None => return,
+        }
+    }
+}
+
+/// By a walk from each end.
+fn by_walk(input: &[u8], each: &mut dyn FnMut(&[usize; 4]) -> bool) {
+    let mut report = [0; 4];
+    let mut place = 0;
+    while ffi::walk(input, place, &mut report) != 1 {
+        if !each(&report) {
+            return;
+        }
+        place = report[1];
+    }
+}
+
+const WAYS: [(&str, Through); 2] = [("reports", by_reports), ("walk", by_walk)];
+
+/// Whether the library's reports are the second program's; how many there are.
+fn agree(input: &[u8], through: Through) -> Option<usize> {
+    let mut expected = reference::reports(input);
+    let mut count = 0;
+    let mut same = true;
+    through(input, &mut |report| {
+        let wanted = expected.next();
+        same = wanted.map(four) == Some(*report);
+        if !same {
+            println!(
+                "report {count} differs: the library has {report:?}, the second program {wanted:?}"
+            );
+        }
+        count += 1;
+        same
+    });
+    if !same {
+        return None;
+    }
+    if let Some(missing) = expected.next() {
+        println!("report {count} differs: the library has none, the second program {missing:?}");
+        return None;
+    }
+    Some(count)
+}
+
+fn four(report: Report) -> [usize; 4] {
+    let Report {
+        start,
+        end,
+        answer,
+        detail,
+    } = report;
+    [start, end, answer.into(), detail]
+}
+
+/// How long it takes to go through the reports of these inputs.
+fn time<'a>(inputs: impl Iterator<Item = &'a [u8]>, through: Through) -> Duration {
+    let before = clock::now();
+    for input in inputs {
+        let mut all = 0_usize;
+        through(black_box(input), &mut |report| {
+            all = all.wrapping_add(report[1] ^ report[2]);
+            true
+        });
+        black_box(all);
+    }
+    clock::now() - before
+}
+
+/// Nanoseconds per byte: the long input, short ones from memory, one short one from the cache.
+fn figures(input: &[u8], short: &[u8], through: Through, rounds: usize) -> [f64; 3] {
+    let mut times = [const { Vec::new() }; 3];
+    let hot = || std::iter::repeat_n(&short[..SHORT], input.len() / SHORT);
+    for _ in 0..rounds {
+        times[0].push(time(std::iter::once(input), through));
+        times[1].push(time(short.chunks(SHORT), through));
+        times[2].push(time(hot(), through));
+    }
+    times.map(|mut times| {
+        times.sort();
+        times[rounds / 2].as_nanos() as f64 / input.len() as f64
+    })
+}
+
+/// Compares and times all kinds of input at this many MiB; whether all held.
+pub fn run(mebibytes: usize) -> bool {
+    assert!(mebibytes > 0, "at least 1 MiB");
+    let size = mebibytes << 20;
+    let rounds = if mebibytes < 16 { 15 } else { 5 };
+    println!("inputs of {mebibytes} MiB, seed {SEED}, {}", stack_limit());
+    println!(
+        "ns per byte: at {mebibytes} MiB, at 64 KiB from memory, growth; at 64 KiB from the cache"
+    );
+    let mut held = true;
+    for kind in &KINDS {
+        let input = (kind.make)(size);
+        let mut short = input.clone();
+        short.chunks_mut(SHORT).for_each(kind.shorten);
+        for (way, through) in WAYS {
+            let Some(count) = agree(&input, through) else {
+                println!("{}, by {way}: the programs differ", kind.name);
+                return false;
+            };
+            let [long, from_memory, from_cache] = figures(&input, &short, through, rounds);
+            let growth = long / from_memory;
+            let verdict = if growth <= MOST_GROWTH {
+                ""
+            } else {
+                " TOO MUCH"
+            };
+            held &= growth <= MOST_GROWTH;
+            println!(
+                "{:<20} by {way:<8} {count:>9} reports the same  {long:8.3} {from_memory:8.3}  x{growth:.2}{verdict}  {from_cache:8.3}",
+                kind.name
+            );
+        }
+    }
+    held
+}
+
+/// The soft limit of the stack, as the system has it.
+fn stack_limit() -> String {
+    let limits = fs::read_to_string("/proc/self/limits").unwrap_or_default();
+    let line = limits
+        .lines()
+        .find(|line| line.starts_with("Max stack size"));
+    match line.and_then(|line| line.split_whitespace().nth(3)) {
+        Some(limit) => format!("stack limit {limit} bytes"),
+        None => String::from("stack limit not known"),
+    }
+}

@@ -1,0 +1,94 @@
+//! Compares every routine of the library with the second program, byte for byte.
+//!
+//!     compare [COUNT] [SEED]     COUNT inputs for each routine (3,000), from SEED on (0)
+//!     compare long [MIB]         reports and growth on inputs of MIB mebibytes (64)
+//!
+//! Input number i of a routine is made from seed SEED + i alone. A difference prints that seed, all
+//! that was lent, and what either program returned and left, and ends the run with status 1.
+
+mod calls;
+mod lent;
+mod long;
+mod routines;
+
+use std::collections::BTreeMap;
+use std::env;
+use std::process::ExitCode;
+
+use lent::Call;
+use reference::streams::Random;
+use routines::{Routine, Source, ROUTINES};
+
+/// The number of inputs for each routine where the command line names none.
+const COUNT: usize = 3_000;
+
+fn main() -> ExitCode {
+    let words: Vec<String> = env::args().skip(1).collect();
+    let words: Vec<&str> = words.iter().map(String::as_str).collect();
+    let held = match words[..] {
+        ["long"] => long::run(64),
+        ["long", mebibytes] => long::run(number(mebibytes)),
+        [] => compare(COUNT, 0),
+        [count] => compare(number(count), 0),
+        [count, seed] => compare(number(count), number(seed)),
+        _ => panic!("compare [COUNT] [SEED] | compare long [MIB]"),
+    };
+    ExitCode::from(u8::from(!held))
+}
+
+fn number<T: std::str::FromStr>(word: &str) -> T {
+    let number = word.parse().ok();
+    number.unwrap_or_else(|| panic!("not a number: {word}"))
+}
+
+fn compare(count: usize, first_seed: u64) -> bool {
+    println!("{count} inputs for each routine, seeds from {first_seed} on");
+    ROUTINES
+        .iter()
+        .all(|routine| compare_routine(routine, count, first_seed))
+}
+
+fn compare_routine(routine: &Routine, count: usize, first_seed: u64) -> bool {
+    let count = match routine.source {
+        Source::Any(_) => count,
+        Source::Every(all, _) => all,
+    };
+    let mut returned = BTreeMap::<usize, usize>::new();
+    for index in 0..count {
+        let seed = first_seed.wrapping_add(index as u64);
+        let mut random = Random::new(seed);
+        let call = match routine.source {
+            Source::Any(make) => make(&mut random),
+            Source::Every(_, make) => make(&mut random, index),
+        };
+        let Some(value) = compare_call(routine, &call) else {
+            println!("  seed {seed}, index {index}");
+            return false;
+        };
+        *returned.entry(value).or_default() += 1;
+    }
+    print!("{}: {count} inputs the same; returned", routine.name);
+    match returned.len() {
+        0..=16 => returned
+            .iter()
+            .for_each(|(value, times)| print!(" {value}:{times}")),
+        many => print!(" {many} different values"),
+    }
+    println!();
+    true
+}
+
+/// The value that both programs return, or none and a print where something differs.
+fn compare_call(routine: &Routine, call: &Call) -> Option<usize> {
+    let (mut library, mut expected) = (call.clone(), call.clone());
+    let value = (routine.library)(&mut library);
+    let expected_value = routine.expect(&mut expected);
+    if value == expected_value && library == expected {
+        return Some(value);
+    }
+    println!("{}: the programs differ", routine.name);
+    println!("  given\n{call}");
+    println!("  the library returned {value} and left\n{library}");
+    println!("  the second program returned {expected_value} and left\n{expected}");
+    None
+}

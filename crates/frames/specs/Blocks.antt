@@ -1,0 +1,23 @@
+-- Bytes passed over sixteen at a time: what is known of them, and what is left to count.
+use mathlib.Core.Path.{_≡_}
+use mathlib.Core.List.{List}
+use Prim.Native.Nat.{ℕ, _+_, _<_, _≤_}
+use lib.ListN.{length, drop, getD}
+use Rattle.frames.specs.Bytes.{body, realTimeIn}
+use Rattle.frames.specs.Extent.{ahead}
+
+-- None of the n bytes from index i on has a property.
+abbrev pub None : (ℕ → Type 0) → ℕ → ℕ → List ℕ → Type 0
+None P i n s = (j : ℕ) → j < n → P (getD s (i + j) 0) → ⊥
+
+-- No F0H stands among the first r bytes: what is left to count starts there.
+pub record Ahead (s : List ℕ) (r : ℕ) : Type 0 where
+  pub within : r ≤ length s
+  pub left : ahead s ≡ r + ahead (drop r s)
+
+-- Only data bytes stand from index i to r: what is left of the body starts at r.
+pub record Onward (s : List ℕ) (i r : ℕ) : Type 0 where
+  pub on : i ≤ r
+  pub within : r ≤ length s
+  pub counted : i + length (body (drop i s)) ≡ r + length (body (drop r s))
+  pub quiet : realTimeIn (body (drop i s)) ≡ realTimeIn (body (drop r s))

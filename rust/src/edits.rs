@@ -1,0 +1,161 @@
+//! Edits: of one field, and of one modulation bus.
+
+use crate::ffi;
+use crate::{Bus, Error, Parameter, Patch};
+
+/// A remote edit (06H): a parameter and its value, in the field's range.
+///
+/// ```
+/// use matrix1000::{Edit, Error, Parameter, Patch};
+///
+/// let edit = Edit::new(Parameter::VCF_FREQUENCY, 127)?;
+/// let mut patch = Patch::default();
+/// patch.apply(edit);
+/// assert_eq!(patch.get(Parameter::VCF_FREQUENCY), 127);
+/// # Ok::<(), Error>(())
+/// ```
+#[derive(Clone, Copy, Debug, PartialEq, Eq, Hash)]
+pub struct Edit {
+    pub(crate) parameter: Parameter,
+    /// The seven bits that are sent.
+    pub(crate) value: u8,
+}
+
+/// A matrix modulation edit (0BH): a bus and what it is to hold.
+///
+/// ```
+/// use matrix1000::{Bus, BusEdit, Error, Patch};
+///
+/// let bus = Bus { source: 1, amount: -1, destination: 1 };
+/// let mut patch = Patch::default();
+/// patch.apply_bus(BusEdit::new(0, bus)?);
+/// assert_eq!(patch.bus(0), Some(bus));
+/// assert_eq!(BusEdit::new(10, bus), Err(Error::NotAllowed));
+/// # Ok::<(), Error>(())
+/// ```
+#[derive(Clone, Copy, Debug, PartialEq, Eq, Hash)]
+pub struct BusEdit {
+    number: u8,
+    source: u8,
+    /// The seven bits that are sent.
+    amount: u8,
+    destination: u8,
+}
+
+impl Edit {
+    /// An edit that sets a parameter to a value.
+    ///
+    /// # Errors
+    ///
+    /// [`Error::OutOfRange`] with the field's place.
+    pub fn new(parameter: Parameter, value: i16) -> Result<Self, Error> {
+        let sent = value.to_le_bytes()[0] & 0x7F;
+        let edit = Self::from_bytes(parameter.number(), sent)?;
+        // Other values have the same seven bits; the field takes one of them.
+        if edit.value() != value {
+            let place = parameter.place();
+            return Err(Error::OutOfRange { place });
+        }
+        Ok(edit)
+    }
+
+    /// An edit as it is sent: the parameter's number and seven bits.
+    ///
+    /// # Errors
+    ///
+    /// [`Error::NotAllowed`] for a number that is no parameter's and a value above 127, then
+    /// [`Error::OutOfRange`].
+    pub fn from_bytes(parameter: u8, value: u8) -> Result<Self, Error> {
+        let mut numbers = [0; 2];
+        let answer = ffi::write_edit(parameter, value, &mut [], &mut numbers);
+        Error::check_without_room(answer, numbers[1])?;
+        Ok(Self {
+            parameter: Parameter::try_from(parameter)?,
+            value,
+        })
+    }
+
+    /// The parameter.
+    #[must_use]
+    pub const fn parameter(self) -> Parameter {
+        self.parameter
+    }
+
+    /// The value that the field gets, with its sign.
+    #[must_use]
+    pub fn value(self) -> i16 {
+        let mut patch = Patch::default();
+        patch.apply(self);
+        patch.get(self.parameter)
+    }
+
+    /// The parameter's number and the seven bits that are sent.
+    #[must_use]
+    pub const fn bytes(self) -> [u8; 2] {
+        [self.parameter.number(), self.value]
+    }
+}
+
+impl BusEdit {
+    /// An edit that sets a bus, 0 to 9.
+    ///
+    /// # Errors
+    ///
+    /// [`Error::NotAllowed`] for another bus, [`Error::WrongAmount`] for an amount outside -64 to
+    /// 63, then [`Error::OutOfRange`] and [`Error::HalfUsed`].
+    pub fn new(number: u8, bus: Bus) -> Result<Self, Error> {
+        let sent = [
+            number,
+            bus.source,
+            bus.amount.cast_unsigned() & 0x7F,
+            bus.destination,
+        ];
+        let in_seven_bits = (-64..=63).contains(&bus.amount);
+        match Self::from_bytes(sent) {
+            Ok(_) | Err(Error::OutOfRange { .. } | Error::HalfUsed { .. }) if !in_seven_bits => {
+                Err(Error::WrongAmount)
+            }
+            tested => tested,
+        }
+    }
+
+    /// An edit as it is sent: bus, source, seven bits of the amount, destination.
+    ///
+    /// # Errors
+    ///
+    /// [`Error::NotAllowed`] for a bus above 9 and an amount above 127, then [`Error::OutOfRange`]
+    /// and [`Error::HalfUsed`].
+    pub fn from_bytes(bytes: [u8; 4]) -> Result<Self, Error> {
+        let mut numbers = [0; 2];
+        let answer = ffi::write_bus_edit(bytes, &mut [], &mut numbers);
+        Error::check_without_room(answer, numbers[1])?;
+        let [number, source, amount, destination] = bytes;
+        Ok(Self {
+            number,
+            source,
+            amount,
+            destination,
+        })
+    }
+
+    /// The number of the bus.
+    #[must_use]
+    pub const fn number(self) -> u8 {
+        self.number
+    }
+
+    /// What the bus gets.
+    #[must_use]
+    pub fn bus(self) -> Bus {
+        let mut patch = Patch::default();
+        patch.apply_bus(self);
+        let bus = patch.bus(self.number.into());
+        bus.expect("a tested edit has a bus")
+    }
+
+    /// Bus, source, seven bits of the amount, destination, as they are sent.
+    #[must_use]
+    pub const fn bytes(self) -> [u8; 4] {
+        [self.number, self.source, self.amount, self.destination]
+    }
+}

@@ -1,0 +1,49 @@
+//! Oberheim Matrix-1000 system exclusive dumps: reading, testing, editing and writing.
+//!
+//! A safe face of a library that is proved. What a message is, which are refused and why, what a
+//! field may hold and what a dump's bytes are is all decided there; nothing of it is decided here.
+//!
+//! ```
+//! use matrix1000::{messages, Error, Message, Parameter, Patch};
+//!
+//! // A patch with a name and a brighter filter, as a dump.
+//! let mut patch = Patch::default();
+//! patch.set_name("BASS 1  ")?;
+//! patch.set(Parameter::VCF_FREQUENCY, 96)?;
+//! let dump = Message::Patch { number: 7, patch }.to_vec()?;
+//!
+//! // The same from a stream with other things in it.
+//! let mut stream = vec![0x90, 0x40, 0x40];
+//! stream.extend(&dump);
+//! for found in messages(&stream) {
+//!     match found.message {
+//!         Ok(Message::Patch { number, patch }) => {
+//!             assert_eq!((number, patch.name().as_str()), (7, "BASS 1  "));
+//!         }
+//!         Ok(other) => println!("a {:?}", other.kind()),
+//!         Err(error) => println!("at {}: {error}", found.start),
+//!     }
+//! }
+//! # Ok::<(), Error>(())
+//! ```
+
+#![deny(missing_docs)]
+#![deny(unsafe_code)]
+
+mod bank;
+mod edits;
+mod error;
+#[allow(unsafe_code)]
+mod ffi;
+mod messages;
+mod parameter;
+mod patch;
+
+pub use bank::Bank;
+pub use edits::{BusEdit, Edit};
+pub use error::{BankError, Error};
+pub use messages::{
+    messages, report_at, reports, Found, Kind, Master, Message, Messages, Report, Reports,
+};
+pub use parameter::Parameter;
+pub use patch::{Bus, Patch};

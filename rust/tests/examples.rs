@@ -1,0 +1,200 @@
+//! Document 01's examples at the edges, through the Rust face.
+
+use matrix1000::{
+    messages, reports, Bank, Bus, BusEdit, Edit, Error, Kind, Master, Message, Parameter, Patch,
+};
+
+fn dump(number: u8, patch: Patch) -> Vec<u8> {
+    Message::Patch { number, patch }.to_vec().unwrap()
+}
+
+#[test]
+fn the_patch_of_zeros() {
+    let dump = dump(0, Patch::default());
+    let mut expected = vec![0; 275];
+    expected[..4].copy_from_slice(&[0xF0, 0x10, 0x06, 0x01]);
+    (expected[157], expected[273], expected[274]) = (0x01, 0x01, 0xF7);
+    assert_eq!(dump, expected);
+}
+
+#[test]
+fn a_name() {
+    let mut patch = Patch::default();
+    patch.set_name("BASS 1  ").unwrap();
+    assert_eq!(patch.as_bytes()[..8], [2, 1, 19, 19, 32, 49, 32, 32]);
+    assert_eq!(dump(0, patch)[273], 0x3B);
+    assert_eq!(patch.set_name("BASS 1"), Err(Error::WrongLength));
+    assert_eq!(patch.set_name("bass 1  "), Err(Error::NotAllowed));
+    assert_eq!(patch.set_name("B\u{c4}SS 1 "), Err(Error::NotAllowed));
+    assert_eq!(patch.name(), "BASS 1  ");
+}
+
+#[test]
+fn a_bus() {
+    let mut patch = Patch::default();
+    let bus = Bus {
+        source: 1,
+        amount: -1,
+        destination: 1,
+    };
+    patch.set_bus(0, bus).unwrap();
+    assert_eq!(dump(0, patch)[273], 0x02);
+    assert_eq!(patch.buses()[0], bus);
+    assert_eq!(patch.buses()[1..], [Bus::default(); 9]);
+    assert_eq!(patch.bus(10), None);
+    assert_eq!(patch.set_bus(10, bus), Err(Error::NotAllowed));
+
+    let half = Bus {
+        destination: 0,
+        ..bus
+    };
+    assert_eq!(patch.set_bus(0, half), Err(Error::HalfUsed { bus: 0 }));
+    assert_eq!(BusEdit::new(0, half), Err(Error::HalfUsed { bus: 0 }));
+    let wide = Bus {
+        destination: 32,
+        ..bus
+    };
+    assert_eq!(
+        patch.set_bus(9, wide),
+        Err(Error::OutOfRange { place: 133 })
+    );
+    assert_eq!(BusEdit::new(9, wide), Err(Error::OutOfRange { place: 133 }));
+    for amount in [-65, 64, 127, -128] {
+        let outside = Bus { amount, ..bus };
+        assert_eq!(BusEdit::new(0, outside), Err(Error::WrongAmount));
+        assert_eq!(BusEdit::new(10, outside), Err(Error::NotAllowed));
+        assert_eq!(
+            patch.set_bus(0, outside),
+            Err(Error::OutOfRange { place: 105 })
+        );
+    }
+    assert_eq!(patch.bus(0), Some(bus));
+}
+
+#[test]
+fn values_of_edits_are_extended() {
+    for (value, amount) in [(0x3F, 63), (0x40, -64), (0x7F, -1)] {
+        let edit = BusEdit::from_bytes([0, 1, value, 1]).unwrap();
+        assert_eq!(edit.bus().amount, amount);
+        assert_eq!(BusEdit::new(0, edit.bus()), Ok(edit));
+    }
+    let vcf = Edit::from_bytes(0x15, 0x7F).unwrap();
+    assert_eq!(
+        (vcf.parameter(), vcf.value()),
+        (Parameter::VCF_FREQUENCY, 127)
+    );
+    let detune = |value| Edit::from_bytes(0x0C, value).map(Edit::value);
+    assert_eq!(detune(0x60), Ok(-32));
+    assert_eq!(detune(0x1F), Ok(31));
+    assert_eq!(detune(0x5F), Err(Error::OutOfRange { place: 19 }));
+    assert_eq!(detune(0x20), Err(Error::OutOfRange { place: 19 }));
+    assert_eq!(
+        Edit::from_bytes(0x00, 0x40),
+        Err(Error::OutOfRange { place: 9 })
+    );
+    assert_eq!(Edit::from_bytes(39, 0), Err(Error::NotAllowed));
+    assert_eq!(Edit::from_bytes(0, 0x80), Err(Error::NotAllowed));
+}
+
+#[test]
+fn lengths_and_numbers() {
+    let patch = Patch::default();
+    let message = Message::Patch { number: 99, patch };
+    let mut out = [0xA5; 276];
+    assert_eq!(message.write_to(&mut out[..274]), Err(Error::NoRoom));
+    assert_eq!(out, [0xA5; 276]);
+    assert_eq!(message.write_to(&mut out), Ok(275));
+    assert_eq!((out[274], out[275]), (0xF7, 0xA5));
+    let refused = Message::Patch { number: 100, patch }.write_to(&mut out);
+    assert_eq!(refused, Err(Error::NotAllowed));
+    assert_eq!(
+        Patch::try_from([0; 134]),
+        Err(Error::OutOfRange { place: 76 })
+    );
+    assert_eq!(Patch::try_from(&[0; 133][..]), Err(Error::WrongLength));
+    assert_eq!(Master::try_from(&[0; 171][..]), Err(Error::WrongLength));
+}
+
+#[test]
+fn every_kind_comes_back_from_its_bytes() {
+    let mut patch = Patch::default();
+    patch.set_name("PATCH  1").unwrap();
+    let bus = Bus {
+        source: 20,
+        amount: -64,
+        destination: 31,
+    };
+    let all = [
+        Message::Patch { number: 42, patch },
+        Message::Master(Master::from(std::array::from_fn(|index| index as u8))),
+        Message::Edit(Edit::new(Parameter::DCO_2_DETUNE, -32).unwrap()),
+        Message::BusEdit(BusEdit::new(9, bus).unwrap()),
+        Message::EditBuffer(patch),
+    ];
+    let mut stream = Vec::new();
+    for message in &all {
+        let bytes = message.to_vec().unwrap();
+        assert_eq!(bytes[3], message.kind().opcode());
+        assert_eq!(Message::read(&bytes), Ok(*message));
+        stream.push(0xFE);
+        stream.extend(bytes);
+    }
+    let back: Vec<Message> = messages(&stream)
+        .map(|found| found.message.unwrap())
+        .collect();
+    assert_eq!(back, all);
+    let kinds: Vec<Kind> = reports(&stream)
+        .map(|report| report.kind.unwrap())
+        .collect();
+    assert_eq!(kinds, all.map(|message| message.kind()));
+}
+
+#[test]
+fn nothing_is_found_where_nothing_is() {
+    for input in [&[][..], &[0x00, 0xF7, 0xFE]] {
+        assert_eq!(messages(input).next(), None);
+        assert_eq!(reports(input).next(), None);
+        assert_eq!(Message::read(input), Err(Error::NoMessage));
+    }
+}
+
+#[test]
+fn banks() {
+    let mut named = Patch::default();
+    named.set_name("NUMBER 2").unwrap();
+    let patches = [Patch::default(), Patch::default(), named];
+    let bank = Bank::new(patches).unwrap();
+    assert_eq!(bank.patches().collect::<Vec<_>>(), patches);
+    assert_eq!(
+        (bank.len(), bank.get(2), bank.get(3)),
+        (3, Some(named), None)
+    );
+    assert_eq!(Bank::from_bytes(bank.as_bytes()), Ok(bank.clone()));
+
+    let found = messages(&bank.to_vec())
+        .map(|found| found.message.unwrap())
+        .collect::<Vec<_>>();
+    assert_eq!(found, bank.messages().collect::<Vec<_>>());
+    assert_eq!(bank.write_to(&mut [0; 3 * 275 - 1]), Err(Error::NoRoom));
+
+    assert!(Bank::default().is_empty());
+    assert!(Bank::default().to_vec().is_empty());
+    let full = std::iter::repeat_n(named, 100);
+    assert_eq!(Bank::new(full.clone()).unwrap().to_vec().len(), 27_500);
+    let over = full.chain([named]);
+    assert_eq!(Bank::new(over), Err(Error::WrongLength));
+
+    let mut bytes = bank.as_bytes().to_vec();
+    bytes[134 + 104] = 1;
+    let refused = Bank::from_bytes(&bytes).unwrap_err();
+    assert_eq!(
+        (refused.patch, refused.error),
+        (1, Error::HalfUsed { bus: 0 })
+    );
+    assert_eq!(
+        refused.to_string(),
+        "patch 1 of the bank: modulation bus 0 is half used"
+    );
+    let refused = Bank::from_bytes(&bytes[1..]).unwrap_err();
+    assert_eq!((refused.patch, refused.error), (0, Error::WrongLength));
+}
