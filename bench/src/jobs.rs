@@ -21,11 +21,11 @@ pub struct Job {
 const SEED: u64 = 1000;
 /// The sizes of the streams. Noise is long enough that no processor learns its branches by heart; F0H
 /// only has far more reports to a byte.
-const BANKS: usize = 1 << 18;
+const BANKS: usize = 1 << 16;
 const NOISE: usize = 1 << 20;
 const STARTS: usize = 1 << 14;
 /// How many patches are tested and edits are applied in a pass.
-const MANY: usize = 1000;
+const MANY: usize = 100;
 
 pub fn all() -> [Job; 8] {
     let mut random = Random::new(SEED);

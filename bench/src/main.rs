@@ -24,12 +24,12 @@ struct Effort {
 }
 
 const FULL: Effort = Effort {
-    sample: Duration::from_millis(2),
-    rounds: 501,
+    sample: Duration::from_millis(1),
+    rounds: 301,
 };
 const QUICK: Effort = Effort {
     sample: Duration::from_millis(1),
-    rounds: 101,
+    rounds: 51,
 };
 
 fn main() {
@@ -54,7 +54,11 @@ fn measure(job: &mut Job, effort: &Effort) {
         "{}: the results differ",
         job.name
     );
-    let passes = passes(&mut job.plain, effort.sample);
+    // Each fills its samples, however much faster the other is.
+    let passes = [
+        passes(&mut job.library, effort.sample),
+        passes(&mut job.plain, effort.sample),
+    ];
     let mut times = [Vec::new(), Vec::new()];
     for round in 0..effort.rounds {
         // Who comes first takes turns too.
@@ -65,10 +69,11 @@ fn measure(job: &mut Job, effort: &Effort) {
             } else {
                 &mut job.plain
             };
-            times[who].push(time(run, passes));
+            let taken = time(run, passes[who]).as_secs_f64();
+            times[who].push(taken / f64::from(passes[who]));
         }
     }
-    let [library, plain] = times.map(|times| median(times).as_secs_f64() / passes as f64);
+    let [library, plain] = times.map(median);
     let Job {
         name, amount, unit, ..
     } = job;
@@ -82,19 +87,19 @@ fn measure(job: &mut Job, effort: &Effort) {
 }
 
 /// How many passes fill a sample.
-fn passes(run: &mut dyn FnMut() -> usize, sample: Duration) -> usize {
+fn passes(run: &mut dyn FnMut() -> usize, sample: Duration) -> u32 {
     let mut passes = 1;
     loop {
         let taken = time(run, passes);
         if taken >= sample / 2 {
-            let wanted = sample.as_secs_f64() / taken.as_secs_f64() * passes as f64;
-            return wanted.ceil() as usize;
+            let wanted = sample.as_secs_f64() / taken.as_secs_f64() * f64::from(passes);
+            return wanted.ceil() as u32;
         }
         passes *= 2;
     }
 }
 
-fn time(run: &mut dyn FnMut() -> usize, passes: usize) -> Duration {
+fn time(run: &mut dyn FnMut() -> usize, passes: u32) -> Duration {
     let before = clock::now();
     for _ in 0..passes {
         black_box(run());
@@ -102,7 +107,7 @@ fn time(run: &mut dyn FnMut() -> usize, passes: usize) -> Duration {
     clock::now() - before
 }
 
-fn median(mut times: Vec<Duration>) -> Duration {
-    times.sort();
+fn median(mut times: Vec<f64>) -> f64 {
+    times.sort_by(f64::total_cmp);
     times[times.len() / 2]
 }

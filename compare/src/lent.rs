@@ -4,22 +4,24 @@ use std::fmt;
 
 use reference::streams::Random;
 
-/// How many elements stand before and behind each slice.
+/// How many elements stand behind each slice, and at least as many before it.
 const GUARD: usize = 16;
 
-/// A slice with guards on both sides. Two are the same only if their guards are too.
+/// A slice with guards on both sides, at any alignment. Two are the same only if their guards are too.
 #[derive(Clone, PartialEq, Eq)]
 pub struct Lent<T> {
     whole: Vec<T>,
+    start: usize,
 }
 
 impl<T: Copy + Fill> Lent<T> {
     /// Lends these elements.
     pub fn new(random: &mut Random, elements: &[T]) -> Self {
-        let mut whole: Vec<T> = (0..GUARD).map(|_| T::fill(random)).collect();
+        let start = GUARD + random.below(GUARD);
+        let mut whole: Vec<T> = (0..start).map(|_| T::fill(random)).collect();
         whole.extend_from_slice(elements);
         whole.extend((0..GUARD).map(|_| T::fill(random)));
-        Self { whole }
+        Self { whole, start }
     }
 
     /// Lends this many elements of any value.
@@ -30,13 +32,13 @@ impl<T: Copy + Fill> Lent<T> {
 
     /// The slice.
     pub fn get(&self) -> &[T] {
-        &self.whole[GUARD..self.whole.len() - GUARD]
+        &self.whole[self.start..self.whole.len() - GUARD]
     }
 
     /// The slice, to be written.
     pub fn get_mut(&mut self) -> &mut [T] {
         let end = self.whole.len() - GUARD;
-        &mut self.whole[GUARD..end]
+        &mut self.whole[self.start..end]
     }
 }
 
@@ -64,7 +66,7 @@ impl fmt::Debug for Lent<u8> {
             bytes.iter().try_for_each(|byte| write!(f, "{byte:02X}"))
         };
         let end = self.whole.len() - GUARD;
-        hex(f, &self.whole[..GUARD])?;
+        hex(f, &self.whole[..self.start])?;
         f.write_str(" [")?;
         hex(f, self.get())?;
         f.write_str("] ")?;
@@ -75,7 +77,7 @@ impl fmt::Debug for Lent<u8> {
 impl fmt::Debug for Lent<usize> {
     fn fmt(&self, f: &mut fmt::Formatter<'_>) -> fmt::Result {
         let end = self.whole.len() - GUARD;
-        let (before, behind) = (&self.whole[..GUARD], &self.whole[end..]);
+        let (before, behind) = (&self.whole[..self.start], &self.whole[end..]);
         write!(f, "{before:?} [{:?}] {behind:?}", self.get())
     }
 }

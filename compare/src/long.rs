@@ -184,7 +184,7 @@ fn figures(input: &[u8], short: &[u8], through: Through, rounds: usize) -> [f64;
 pub fn run(mebibytes: usize) -> bool {
     assert!(mebibytes > 0, "at least 1 MiB");
     let size = mebibytes << 20;
-    let rounds = if mebibytes < 16 { 15 } else { 5 };
+    let rounds = if mebibytes < 16 { 15 } else { 3 };
     println!("inputs of {mebibytes} MiB, seed {SEED}, {}", stack_limit());
     println!(
         "ns per byte: at {mebibytes} MiB, at 64 KiB from memory, growth; at 64 KiB from the cache"

@@ -58,6 +58,12 @@ fn skip_blocks(rest: &[u8]) -> usize
 pub fn find_start(rest: &[u8]) -> usize
     ensures { λ r. ⌜ r ≡ ahead (now (rest .entry)) ⌝ }
 {
+    // Dumps often stand end to end.
+    if 0 < rest.len() {
+        if rest[0] == 0xF0 {
+            return 0;
+        }
+    }
     let mut i: usize = skip_blocks(rest);
     while i < rest.len() {
         if rest[i] == 0xF0 {
@@ -121,11 +127,12 @@ fn skip_data(rest: &[u8], from: usize) -> usize
     i
 }
 
-// How far a message runs, from the bytes behind its F0H.
-pub fn find_end(rest: &[u8]) -> Span
+// The span of a message from an index on up to which only data bytes stand. The caller below has passed them.
+fn find_end_from(rest: &[u8], from: usize) -> Span
+    requires { ⌜ Onward (now rest) 0 from ⌝ }
     ensures { λ r. ⌜ r ≡ spanOf (now (rest .entry)) ⌝ }
 {
-    let mut i: usize = skip_data(rest, 0);
+    let mut i: usize = from;
     let mut noise: usize = 0;
     while i < rest.len() {
         let b = rest[i];
@@ -147,6 +154,18 @@ pub fn find_end(rest: &[u8]) -> Span
         noise,
         ending: CUT,
     }
+}
+
+// How far a message runs, from the bytes behind its F0H.
+pub fn find_end(rest: &[u8]) -> Span
+    ensures { λ r. ⌜ r ≡ spanOf (now (rest .entry)) ⌝ }
+{
+    if 0 < rest.len() {
+        if rest[0] < 0x80 {
+            return find_end_from(rest, skip_data(rest, 0));
+        }
+    }
+    find_end_from(rest, 0)
 }
 
 // The bytes that are not real time, at the start of `out`, as many as fit; and how many they are.

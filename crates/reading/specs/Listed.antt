@@ -1,7 +1,7 @@
 -- Reports written into lent room, four numbers each: start, end, answer, detail.
 use mathlib.Core.Path.{_≡_}
 use mathlib.Core.List.{List, [], _∷_, _++_}
-use Prim.Native.Nat.{ℕ, _*_, _/_}
+use Prim.Native.Nat.{ℕ, zero, suc, _*_, _/_}
 use lib.ListN.{length, take, drop}
 use Rattle.answers.specs.Table.{answerOf, detailOf}
 use Rattle.frames.specs.Stream.{Report}
@@ -39,3 +39,8 @@ pub record Fills (s : List ℕ) (place : ℕ) (old new : List ℕ) (n : ℕ) : T
 pub record Makes (s : List ℕ) (place : ℕ) (old new : List ℕ) (r : Listed) : Type 0 where
   pub fills : Fills s place old new (r .count)
   pub next : r .next ≡ endOf place (made s place old)
+
+-- The reports of n calls from a place on, each next call from the end of the last report.
+abbrev pub reportsByCalls : ℕ → List ℕ → ℕ → List ℕ → List Report
+reportsByCalls zero s place room = []
+reportsByCalls (suc n) s place room = made s place room ++ reportsByCalls n s (endOf place (made s place room)) room

@@ -17,17 +17,20 @@ abbrev μ-loop : tie.MeasureT-loop
 μ-loop rest i₀ i = length rest - i
 
 returns : tie.Need-returns Inv-loop μ-loop
-returns c =
+returns c = omega (arith, ahead-found (c .before .before .before .before .args .rest .now) 0 (c .before .before .if1 .taken) (c .if2 .taken))
+
+returns-2 : tie.Need-returns-2 Inv-loop μ-loop
+returns-2 c =
     let at = c .before .before .before in
-    omega (arith, ahead-found (at .before .before .before .args .rest .now) (at .loop .i) (c .before .before .loop-test .taken) (c .if1 .taken))
+    omega (arith, ahead-found (at .before .before .before .before .args .rest .now) (at .loop .i) (c .before .before .loop-test .taken) (c .if3 .taken))
 
 loop-again : tie.Need-loop-again Inv-loop μ-loop
 loop-again c =
     let at = c .before .before .before in
-    omega (arith, ahead-other (at .before .before .before .args .rest .now) (at .loop .i) (c .before .before .loop-test .taken) (c .if1 .left))
+    omega (arith, ahead-other (at .before .before .before .before .args .rest .now) (at .loop .i) (c .before .before .loop-test .taken) (c .if3 .left))
 
-returns-2 : tie.Need-returns-2 Inv-loop μ-loop
-returns-2 c = omega (arith, ahead-end (c .before .before .before .before .args .rest .now) (c .before .loop .i) (c .loop-test .left))
+returns-3 : tie.Need-returns-3 Inv-loop μ-loop
+returns-3 c = omega (arith, ahead-end (c .before .before .before .before .before .args .rest .now) (c .before .loop .i) (c .loop-test .left))
 
 pub find-start-spec : {M : Type 1} → statement M
 find-start-spec =
@@ -35,11 +38,13 @@ find-start-spec =
     (tie.spec
     Inv-loop
     μ-loop
+    (λ c. omega arith)
+    returns
     (λ c κs. search needs)
     (λ c. omega (arith, c .skip-blocks .ensures))
     (λ c. omega arith)
-    returns
+    returns-2
     (λ c. omega arith)
     (λ c. omega arith)
     loop-again
-    returns-2)
+    returns-3)
