@@ -1,3 +1,3 @@
 pub mod Lists
 pub mod Rows
-pub mod Passed
+pub mod Effects

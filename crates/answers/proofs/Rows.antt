@@ -1,17 +1,18 @@
 -- A table of refusals gives (n, d) exactly when some row says (n, d) and no row before it says anything.
 -- Each law goes by the rows in their order, and by what the first of them says.
-use mathlib.Core.Path.{_≡_, refl, ap, _∙_, subst}
-use mathlib.Core.Bool.{Bool, true, false}
+use mathlib.Core.Path.{_≡_, refl, ap, sym, _∙_, subst}
+use mathlib.Core.Bool.{Bool, true, false, not}
 use mathlib.Core.List.{List, [], _∷_, _++_, append-nil}
 use mathlib.Core.Logic.{_↔_}
 use mathlib.Core.Option.{Option, none, some, Option·some-injective}
-use Prim.Native.Nat.{ℕ, _<_, _≤_}
+use Prim.Native.Nat.{ℕ}
 use native.Mathlib.Omega.{arith}
-use lib.ListN.{length, drop}
-use borrow.Author.Tests.{lt-ltb, le-ltb}
+use lib.Dec.{eqb}
+use borrow.Author.Tests.{eqb-true, not-false}
 use Rattle.answers.specs.Lists.{All}
-use Rattle.answers.specs.Table.{Row, row, rowAt, Verdict, done, refused, first, says}
-use Rattle.answers.specs.Effect.{outcome, tested, changed, written}
+use Rattle.answers.specs.Table.{Row, row, rowAt, Verdict, done, refused, first, answerOf, says}
+use Rattle.answers.specs.Effect.{outcome, tested}
+use Rattle.answers.proofs.Lists.{all-left, all-right}
 
 -- No row says anything.
 abbrev pub Silent : List Row → Type 0
@@ -56,6 +57,14 @@ first-passed (row n false ∷ rows) v a = first-passed rows v (a .1)
 first-passed (rowAt n (some d) ∷ rows) v a = let e = a .0 in cc
 first-passed (rowAt n none ∷ rows) v a = first-passed rows v (a .1)
 
+-- They leave it to the rows that follow.
+pub passed-over : (rows more : List Row) (v : Verdict) → Silent rows → first (rows ++ more) v ≡ first more v
+passed-over rows more v a = first-append rows more v ∙ first-passed rows (first more v) a
+
+-- Rows and the rows that follow say nothing: neither part does.
+pub silent-parts : (rows more : List Row) → Silent (rows ++ more) → Silent rows × Silent more
+silent-parts rows more a = (all-left (λ r. says r ≡ none) rows more a, all-right (λ r. says r ≡ none) rows more a)
+
 -- Where the table gives a `done`, no row says anything, and it is the one that stands behind the rows.
 pub done-passed : (rows : List Row) (v : Verdict) (o : ℕ) (b p : List ℕ) → first rows v ≡ done o b p → Silent rows × (v ≡ done o b p)
 done-passed [] v o b p e = (tt, e)
@@ -91,60 +100,60 @@ refused-exactly rows o b p n d = (first-given rows o b p n d, given-first rows (
 pub done-exactly : (rows : List Row) (o : ℕ) (b p : List ℕ) → (first rows (done o b p) ≡ done o b p) ↔ Silent rows
 done-exactly rows o b p = ((λ e. (done-passed rows (done o b p) o b p e) .0), first-passed rows (done o b p))
 
--- The answer of rows alone: 0 with detail 0 where none says anything, else what the first says.
-pub tested-passed : (rows : List Row) → Silent rows → tested rows ≡ outcome 0 0
-tested-passed rows a = rw (first-passed rows (done 0 [] []) a)
+-- What a row that says nothing tests does not hold.
+pub row-silent : (n : ℕ) (t : Bool) → says (row n t) ≡ none → t ≡ false
+row-silent n true e = let z : _≡_ {A = ℕ} 0 1 = cc in absurd (omega arith)
+row-silent n false e = refl
 
-pub tested-refused : (rows : List Row) (n d : ℕ) → FirstSays rows n d → tested rows ≡ outcome n d
-tested-refused rows n d f = rw (given-first rows (done 0 [] []) n d f)
+-- Its search finds nothing.
+pub row-at-silent : (n : ℕ) (o : Option ℕ) → says (rowAt n o) ≡ none → o ≡ none
+row-at-silent n (some d) e = let z : _≡_ {A = ℕ} 0 1 = cc in absurd (omega arith)
+row-at-silent n none e = refl
 
--- Bytes that no row refuses are written where they fit, refused by 13 where they do not; a lent buffer is not touched by a refusal.
-pub written-fits : (rows : List Row) (bytes out : List ℕ) → Silent rows → length bytes ≤ length out
-    → written rows bytes out ≡ record { result = outcome 0 (length bytes); lent = bytes ++ drop (length bytes) out }
-written-fits rows bytes out a h = rw (first-append, first-passed rows _ a, le-ltb (length out) (length bytes) h)
-
-pub written-short : (rows : List Row) (bytes out : List ℕ) → Silent rows → length out < length bytes
-    → written rows bytes out ≡ record { result = outcome 13 0; lent = out }
-written-short rows bytes out a h = rw (first-append, first-passed rows _ a, lt-ltb (length out) (length bytes) h)
-
-pub written-refused : (rows : List Row) (bytes out : List ℕ) (n d : ℕ) → FirstSays rows n d
-    → written rows bytes out ≡ record { result = outcome n d; lent = out }
-written-refused rows bytes out n d f = rw (first-append, given-first rows _ n d f)
+-- Two numbers that it compares are equal.
+pub row-equal : (n a b : ℕ) → says (row n (not (eqb a b))) ≡ none → a ≡ b
+row-equal n a b e = eqb-true a b (not-false (eqb a b) (row-silent n (not (eqb a b)) e))
 
 -- A row's number.
 abbrev pub numberOf : Row → ℕ
 numberOf (row n h) = n
 numberOf (rowAt n o) = n
 
+-- A refusal's number is that of one of the rows: what holds of every row's number holds of it.
+pub first-number : (P : ℕ → Type 0) (rows : List Row) (o : ℕ) (b p : List ℕ) (n d : ℕ) → All (λ (r : Row). P (numberOf r)) rows
+    → first rows (done o b p) ≡ refused n d → P n
+first-number P [] o b p n d a e = let z : _≡_ {A = ℕ} 0 1 = cc in absurd (omega arith)
+first-number P (row k true ∷ rows) o b p n d a e = let same : k ≡ n = cc in subst P same (a .0)
+first-number P (row k false ∷ rows) o b p n d a e = first-number P rows o b p n d (a .1) e
+first-number P (rowAt k (some i) ∷ rows) o b p n d a e = let same : k ≡ n = cc in subst P same (a .0)
+first-number P (rowAt k none ∷ rows) o b p n d a e = first-number P rows o b p n d (a .1) e
+
 -- Every row is numbered as a refusal: 0 is not among them.
 abbrev pub Refusals : List Row → Type 0
 Refusals rows = All (λ (r : Row). numberOf r ≡ 0 → ⊥) rows
 
--- Rows that are answered 0, none of them numbered 0, say nothing.
+-- Rows that give answer 0, none of them numbered 0, say nothing.
+pub zero-silent : (rows : List Row) (v : Verdict) → Refusals rows → answerOf (first rows v) ≡ 0 → Silent rows
+zero-silent [] v a e = tt
+zero-silent (row n true ∷ rows) v a e = absurd (a .0 e)
+zero-silent (row n false ∷ rows) v a e = (refl, zero-silent rows v (a .1) e)
+zero-silent (rowAt n (some d) ∷ rows) v a e = absurd (a .0 e)
+zero-silent (rowAt n none ∷ rows) v a e = (refl, zero-silent rows v (a .1) e)
+
+-- The answer of rows alone is that of what the first of them gives.
+tested-answer : (rows : List Row) → tested rows .answer ≡ answerOf (first rows (done 0 [] []))
+tested-answer [] = refl
+tested-answer (row n true ∷ rows) = refl
+tested-answer (row n false ∷ rows) = tested-answer rows
+tested-answer (rowAt n (some d) ∷ rows) = refl
+tested-answer (rowAt n none ∷ rows) = tested-answer rows
+
+-- So rows that are answered 0 say nothing, and those that say nothing are answered 0 with detail 0.
 pub answered-silent : (rows : List Row) → Refusals rows → tested rows .answer ≡ 0 → Silent rows
-answered-silent [] a e = tt
-answered-silent (row n true ∷ rows) a e = absurd (a .0 e)
-answered-silent (row n false ∷ rows) a e = (refl, answered-silent rows (a .1) e)
-answered-silent (rowAt n (some d) ∷ rows) a e = absurd (a .0 e)
-answered-silent (rowAt n none ∷ rows) a e = (refl, answered-silent rows (a .1) e)
+answered-silent rows a e = zero-silent rows (done 0 [] []) a (sym (tested-answer rows) ∙ e)
 
--- A refusal's number is that of one of the rows: what holds of every row's number holds of it.
-pub refused-number : (P : ℕ → Type 0) (rows : List Row) (o : ℕ) (b p : List ℕ) (n d : ℕ) → All (λ (r : Row). P (numberOf r)) rows
-    → first rows (done o b p) ≡ refused n d → P n
-refused-number P [] o b p n d a e = let z : _≡_ {A = ℕ} 0 1 = cc in absurd (omega arith)
-refused-number P (row k true ∷ rows) o b p n d a e = let same : k ≡ n = cc in subst P same (a .0)
-refused-number P (row k false ∷ rows) o b p n d a e = refused-number P rows o b p n d (a .1) e
-refused-number P (rowAt k (some i) ∷ rows) o b p n d a e = let same : k ≡ n = cc in subst P same (a .0)
-refused-number P (rowAt k none ∷ rows) o b p n d a e = refused-number P rows o b p n d (a .1) e
-
--- What a row that says nothing tests.
-pub row-silent : (n : ℕ) (t : Bool) → says (row n t) ≡ none → t ≡ false
-row-silent n true e = let z : _≡_ {A = ℕ} 0 1 = cc in absurd (omega arith)
-row-silent n false e = refl
-
-pub row-at-silent : (n : ℕ) (o : Option ℕ) → says (rowAt n o) ≡ none → o ≡ none
-row-at-silent n (some d) e = let z : _≡_ {A = ℕ} 0 1 = cc in absurd (omega arith)
-row-at-silent n none e = refl
+pub tested-passed : (rows : List Row) → Silent rows → tested rows ≡ outcome 0 0
+tested-passed rows a = rw (first-passed rows (done 0 [] []) a)
 
 -- Rows that refuse do so whatever rows follow.
 pub stopped : (rows more : List Row) (v : Verdict) → (tested rows .answer ≡ 0 → ⊥)
@@ -155,20 +164,16 @@ stopped (row k false ∷ rows) more v n = stopped rows more v n
 stopped (rowAt k (some d) ∷ rows) more v n = refl
 stopped (rowAt k none ∷ rows) more v n = stopped rows more v n
 
--- Rows that are answered 0 leave the verdict to the rows that follow.
-pub passed-on : (rows more : List Row) (v : Verdict) → Refusals rows → tested rows .answer ≡ 0 → first (rows ++ more) v ≡ first more v
-passed-on rows more v a z = first-append rows more v ∙ first-passed rows (first more v) (answered-silent rows a z)
-
--- The answer of rows is theirs whatever rows follow, or that of the rows that follow.
-pub tested-stopped : (rows more : List Row) → (tested rows .answer ≡ 0 → ⊥) → tested (rows ++ more) ≡ tested rows
-tested-stopped rows more n = rw (stopped rows more (done 0 [] []) n)
-
-pub tested-passed-on : (rows more : List Row) → Refusals rows → tested rows .answer ≡ 0 → tested (rows ++ more) ≡ tested more
-tested-passed-on rows more a z = rw (passed-on rows more (done 0 [] []) a z)
-
 -- What rows come to by the answer they are given alone: what they refuse, or the verdict behind them.
 pub first-stopped : (rows : List Row) (v : Verdict) → (tested rows .answer ≡ 0 → ⊥) → first rows v ≡ refused (tested rows .answer) (tested rows .detail)
 first-stopped rows v n = rw append-nil at (stopped rows [] v n)
 
 pub first-zero : (rows : List Row) (v : Verdict) → Refusals rows → tested rows .answer ≡ 0 → first rows v ≡ v
 first-zero rows v a z = first-passed rows v (answered-silent rows a z)
+
+-- The answer of rows is theirs whatever rows follow, or that of the rows that follow.
+pub tested-stopped : (rows more : List Row) → (tested rows .answer ≡ 0 → ⊥) → tested (rows ++ more) ≡ tested rows
+tested-stopped rows more n = rw (stopped rows more (done 0 [] []) n)
+
+pub tested-passed-on : (rows more : List Row) → Refusals rows → tested rows .answer ≡ 0 → tested (rows ++ more) ≡ tested more
+tested-passed-on rows more a z = rw (passed-over rows more (done 0 [] []) (answered-silent rows a z))

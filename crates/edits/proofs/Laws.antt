@@ -1,28 +1,27 @@
 -- The two edits: done, one changes its own bytes to the extended values and no other, and the patch stays accepted; refused, it changes
 -- nothing. Rows that pass give the place and the ranges; the laws of a stored byte give the rest.
-use mathlib.Core.Path.{_≡_, refl, ap, sym, _∙_, subst}
-use mathlib.Core.Bool.{Bool, true, false, cond, not, _&&_}
+use mathlib.Core.Path.{_≡_, refl, ap, _∙_, subst}
+use mathlib.Core.Bool.{Bool, true, false, cond}
 use mathlib.Core.List.{List, [], _∷_, _++_}
 use mathlib.Core.Option.{Option, none, some}
 use Prim.Native.Nat.{ℕ, suc, _+_, _*_, _≤_, _<_}
 use native.Mathlib.Omega.{arith}
-use lib.Dec.{T, eqb, ltb, ltb→lt, T-not}
+use lib.Dec.{eqb, ltb}
 use lib.ListN.{length, getD, set, length-set}
 use lib.Seq.{getD-set-same, getD-set-other}
-use borrow.Author.Tests.{lt-ltb, le-ltb, le-leb, ltb-true, ltb-false, eqb-true, eqb-false, eq-eqb, ne-eqb}
-use Rattle.answers.specs.Table.{Row, Verdict, done, refused, first, says}
-use Rattle.answers.specs.Lists.{All}
+use borrow.Author.Tests.{lt-ltb, le-ltb, le-leb, ltb-true, ltb-false, eqb-true, eqb-false, ne-eqb}
+use Rattle.answers.specs.Table.{Row, done, refused, first}
 use Rattle.answers.specs.Effect.{Effect, outcome, changed, tested}
-use Rattle.answers.proofs.Lists.{all-append, all-left, all-right, all-weaken}
-use Rattle.answers.proofs.Rows.{Silent, done-passed, numberOf, answered-silent, refused-number, row-at-silent}
+use Rattle.answers.proofs.Lists.{all-append}
+use Rattle.answers.proofs.Rows.{Silent, Refusals, numberOf, first-passed, done-passed, silent-parts, first-number}
+use Rattle.answers.proofs.Effects.{changed-kept, changed-silent}
 use Rattle.patch.specs.Fields.{between, inRange, placeOf}
-use Rattle.patch.specs.Patch.{outFrom, firstOut, halfUsed, firstHalf, patchRows}
-use Rattle.patch.proofs.Below.{parts}
-use Rattle.patch.proofs.Answers.{stopped}
+use Rattle.patch.specs.Patch.{outFrom, firstOut, halfUsed, patchRows}
+use Rattle.patch.proofs.Tests.{patch-refusals, fields-pass, patch-length}
 use Rattle.patch.proofs.Rules.{found-place, one-in}
+use Rattle.patch.proofs.Accepted.{out-set, Whole, each-whole, patch-accepted}
 use Rattle.edits.specs.Edits.{extended, storedFor, editRows, busRows, withByte, withBus, applying, applyingBus}
-use Rattle.edits.proofs.Tests.{rows-at, rows-nowhere, value-inside, patch-length, bus-number, bus-amount, bus-bytes, bus-whole}
-use Rattle.edits.proofs.Accepted.{out-set, Whole, each-whole, patch-accepted}
+use Rattle.edits.proofs.Tests.{rows-at, rows-nowhere, edit-refusals, bus-refusals, value-inside, bus-number, bus-amount, bus-bytes, bus-whole}
 
 -- Below 64 a value stays as it is.
 pub extended-low : (v : ℕ) → v < 64 → extended v ≡ v
@@ -72,93 +71,43 @@ amount-inside a h = go (ltb a 64) refl
 abbrev pub Refusal : ℕ → Type 0
 Refusal k = (k ≡ 0 → ⊥) × (k ≡ 13 → ⊥)
 
-refusal : (k : ℕ) → T (ltb 0 k && not (eqb k 13)) → Refusal k
-refusal k t =
-    let q = parts (ltb 0 k) (not (eqb k 13)) t in
-    let l = ltb→lt 0 k (q .0) in
-    ((λ e. omega arith), (λ e. T-not (eqb k 13) (q .1) (subst T (sym (eq-eqb k 13 e)) tt)))
-
-abbrev Refusals : List Row → Type 0
-Refusals rows = All (λ (r : Row). Refusal (numberOf r)) rows
-
-edit-numbers : (n v : ℕ) → Refusals (editRows n v)
-unfolding editRows
-edit-numbers n v = (refusal 8 tt, (refusal 11 tt, tt))
-
-bus-numbers : (b s a d : ℕ) → Refusals (busRows b s a d)
-unfolding busRows
-bus-numbers b s a d = (refusal 8 tt, (refusal 14 tt, (refusal 11 tt, (refusal 12 tt, tt))))
-
-patch-numbers : (p : List ℕ) → Refusals (patchRows p)
-patch-numbers p = (refusal 7 tt, (refusal 11 tt, (refusal 12 tt, tt)))
-
-not-zero : (rows : List Row) → Refusals rows → All (λ (r : Row). numberOf r ≡ 0 → ⊥) rows
-not-zero rows a = all-weaken (λ (r : Row). Refusal (numberOf r)) (λ (r : Row). numberOf r ≡ 0 → ⊥) (λ r q. q .0) rows a
-
 -- A refusal of a remote edit is neither 0 nor 13.
 pub edit-rows-numbers : (n v k d : ℕ) → first (editRows n v) (done 0 [] []) ≡ refused k d → Refusal k
-edit-rows-numbers n v k d e = refused-number Refusal (editRows n v) 0 [] [] k d (edit-numbers n v) e
+unfolding editRows
+edit-rows-numbers n v k d e = first-number Refusal (editRows n v) 0 [] [] k d (omega arith) e
 
 -- Nor is one of a matrix modulation edit.
 pub bus-rows-numbers : (b s a d k m : ℕ) → first (busRows b s a d) (done 0 [] []) ≡ refused k m → Refusal k
-bus-rows-numbers b s a d k m e = refused-number Refusal (busRows b s a d) 0 [] [] k m (bus-numbers b s a d) e
-
--- The rows of a remote edit that are answered 0 say nothing.
-pub edit-passed : (n v : ℕ) → tested (editRows n v) .answer ≡ 0 → Silent (editRows n v)
-edit-passed n v e = answered-silent (editRows n v) (not-zero (editRows n v) (edit-numbers n v)) e
-
--- Nor do those of a matrix modulation edit.
-pub bus-passed : (b s a d : ℕ) → tested (busRows b s a d) .answer ≡ 0 → Silent (busRows b s a d)
-bus-passed b s a d e = answered-silent (busRows b s a d) (not-zero (busRows b s a d) (bus-numbers b s a d)) e
-
--- Rows of a remote edit that are answered otherwise refuse with that answer and its detail.
-pub edit-stopped : (n v : ℕ) (w : Verdict) → (tested (editRows n v) .answer ≡ 0 → ⊥)
-    → first (editRows n v) w ≡ refused (tested (editRows n v) .answer) (tested (editRows n v) .detail)
-unfolding editRows
-edit-stopped n v w h = stopped (editRows n v) [] w h
-
--- So do those of a matrix modulation edit.
-pub bus-stopped : (b s a d : ℕ) (w : Verdict) → (tested (busRows b s a d) .answer ≡ 0 → ⊥)
-    → first (busRows b s a d) w ≡ refused (tested (busRows b s a d) .answer) (tested (busRows b s a d) .detail)
 unfolding busRows
-bus-stopped b s a d w h = stopped (busRows b s a d) [] w h
-
-kept : (detail : ℕ) (new old : List ℕ) (v : Verdict) → (changed detail new old v .result .answer ≡ 0 → ⊥) → changed detail new old v .lent ≡ old
-kept detail new old (done o b p) h = absurd (h refl)
-kept detail new old (refused n d) h = refl
+bus-rows-numbers b s a d k m e = first-number Refusal (busRows b s a d) 0 [] [] k m (omega arith) e
 
 -- A remote edit that is answered otherwise than 0 leaves the patch as it was.
 pub edit-refused-keeps : (n v : ℕ) (p : List ℕ) → (applying n v p .result .answer ≡ 0 → ⊥) → applying n v p .lent ≡ p
 unfolding applying
-edit-refused-keeps n v p h = kept 0 _ p (first (editRows n v ++ patchRows p) (done 0 [] [])) h
+edit-refused-keeps n v p h = changed-kept 0 _ p (first (editRows n v ++ patchRows p) (done 0 [] [])) h
 
 -- So does a matrix modulation edit.
 pub bus-refused-keeps : (b s a d : ℕ) (p : List ℕ) → (applyingBus b s a d p .result .answer ≡ 0 → ⊥) → applyingBus b s a d p .lent ≡ p
 unfolding applyingBus
-bus-refused-keeps b s a d p h = kept 0 _ p (first (busRows b s a d ++ patchRows p) (done 0 [] [])) h
+bus-refused-keeps b s a d p h = changed-kept 0 _ p (first (busRows b s a d ++ patchRows p) (done 0 [] [])) h
 
-answered-done : (rows : List Row) (new old : List ℕ) → Refusals rows → changed 0 new old (first rows (done 0 [] [])) .result .answer ≡ 0
-    → first rows (done 0 [] []) ≡ done 0 [] []
-answered-done rows new old a e = go (first rows (done 0 [] [])) refl e
-  where
-    go : (v : Verdict) → first rows (done 0 [] []) ≡ v → changed 0 new old v .result .answer ≡ 0 → first rows (done 0 [] []) ≡ done 0 [] []
-    go (done o b p) q e = let r = done-passed rows (done 0 [] []) o b p q .1 in cc
-    go (refused n d) q e = absurd (refused-number Refusal rows 0 [] [] n d a q .0 e)
+-- Rows of refusals and the patch's behind them that change a patch with answer 0 come to `done`.
+answered-done : (rows : List Row) (new p : List ℕ) → Refusals rows → changed 0 new p (first (rows ++ patchRows p) (done 0 [] [])) .result .answer ≡ 0
+    → first (rows ++ patchRows p) (done 0 [] []) ≡ done 0 [] []
+answered-done rows new p a e =
+    let all = all-append (λ (r : Row). numberOf r ≡ 0 → ⊥) rows (patchRows p) a (patch-refusals p) in
+    first-passed (rows ++ patchRows p) (done 0 [] []) (changed-silent 0 new p (rows ++ patchRows p) all e)
 
 -- A remote edit that is answered 0 is done: no row of its own says anything, and none of the patch's.
 pub edit-done : (n v : ℕ) (p : List ℕ) → applying n v p .result .answer ≡ 0 → first (editRows n v ++ patchRows p) (done 0 [] []) ≡ done 0 [] []
 unfolding applying
-edit-done n v p e =
-    answered-done (editRows n v ++ patchRows p) (withByte (placeOf n) (storedFor n v) p) p
-    (all-append (λ (r : Row). Refusal (numberOf r)) (editRows n v) (patchRows p) (edit-numbers n v) (patch-numbers p)) e
+edit-done n v p e = answered-done (editRows n v) (withByte (placeOf n) (storedFor n v) p) p (edit-refusals n v) e
 
 -- So is a matrix modulation edit.
 pub bus-done : (b s a d : ℕ) (p : List ℕ) → applyingBus b s a d p .result .answer ≡ 0
     → first (busRows b s a d ++ patchRows p) (done 0 [] []) ≡ done 0 [] []
 unfolding applyingBus
-bus-done b s a d p e =
-    answered-done (busRows b s a d ++ patchRows p) (withBus b s a d p) p
-    (all-append (λ (r : Row). Refusal (numberOf r)) (busRows b s a d) (patchRows p) (bus-numbers b s a d) (patch-numbers p)) e
+bus-done b s a d p e = answered-done (busRows b s a d) (withBus b s a d p) p (bus-refusals b s a d) e
 
 -- A remote edit that is done: the byte at its parameter's place becomes the extended value, every other byte stays, and the patch
 -- afterwards passes its tests.
@@ -174,9 +123,7 @@ pub record EditDone (n v : ℕ) (p : List ℕ) : Type 0 where
 
 -- A patch whose rows say nothing has each byte in range, and whole buses.
 patch-whole : (p : List ℕ) → Silent (patchRows p) → (firstOut p ≡ none) × ((c : ℕ) → c < 10 → Whole p c)
-patch-whole p a =
-    let whole = row-at-silent 12 (firstHalf p) (a .1 .1 .0) in
-    (row-at-silent 11 (firstOut p) (a .1 .0), λ c k. each-whole 10 0 p whole c (omega arith) (omega arith))
+patch-whole p a = let f = fields-pass p (a .1) in (f .0, λ c k. each-whole 10 0 p (f .1) c (omega arith) (omega arith))
 
 -- One byte stored below the buses.
 one-stored : (p : List ℕ) (k b : ℕ) → Silent (patchRows p) → k < 104 → inRange k b ≡ true → tested (patchRows (set p k b)) ≡ outcome 0 0
@@ -196,9 +143,9 @@ edit-stored n v k p q e =
 
 edit-at : (n v k : ℕ) (p : List ℕ) → placeOf n ≡ some k → first (editRows n v ++ patchRows p) (done 0 [] []) ≡ done 0 [] [] → EditDone n v p
 edit-at n v k p q e =
-    let silent = done-passed (editRows n v ++ patchRows p) (done 0 [] []) 0 [] [] e .0 in
-    let quiet = all-right (λ (r : Row). says r ≡ none) (editRows n v) (patchRows p) silent in
-    let edit = subst Silent (rows-at n v k q) (all-left (λ (r : Row). says r ≡ none) (editRows n v) (patchRows p) silent) in
+    let silent = silent-parts (editRows n v) (patchRows p) (done-passed (editRows n v ++ patchRows p) (done 0 [] []) 0 [] [] e .0) in
+    let quiet = silent .1 in
+    let edit = subst Silent (rows-at n v k q) (silent .0) in
     let sits = found-place n k q in
     let l = patch-length p quiet in
     let new = edit-stored n v k p q e in
@@ -305,9 +252,9 @@ bus-stored b s a d p e = ap (changed 0 (withBus b s a d p) p) e
 -- A matrix modulation edit that is done changes the three bytes of its bus and no other byte, and the patch stays accepted.
 pub bus-own-field : (b s a d : ℕ) (p : List ℕ) → first (busRows b s a d ++ patchRows p) (done 0 [] []) ≡ done 0 [] [] → BusDone b s a d p
 bus-own-field b s a d p e =
-    let silent = done-passed (busRows b s a d ++ patchRows p) (done 0 [] []) 0 [] [] e .0 in
-    let edit = all-left (λ (r : Row). says r ≡ none) (busRows b s a d) (patchRows p) silent in
-    let quiet = all-right (λ (r : Row). says r ≡ none) (busRows b s a d) (patchRows p) silent in
+    let silent = silent-parts (busRows b s a d) (patchRows p) (done-passed (busRows b s a d ++ patchRows p) (done 0 [] []) 0 [] [] e .0) in
+    let edit = silent .0 in
+    let quiet = silent .1 in
     let w = patch-whole p quiet in
     let l = patch-length p quiet in
     let h = bus-number b s a d edit in

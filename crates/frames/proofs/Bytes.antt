@@ -1,14 +1,14 @@
 -- Which bytes each kind has, and what follows for the bytes that end a message.
 -- Each law goes by the tests of `kindOf` in their order.
-use mathlib.Core.Path.{_≡_, refl}
+use mathlib.Core.Path.{_≡_, refl, ap}
 use mathlib.Core.Bool.{Bool, true, false, cond}
 use mathlib.Core.List.{List, [], _∷_}
 use Prim.Native.Nat.{ℕ, suc, _≤_, _<_}
 use native.Mathlib.Omega.{arith}
 use lib.Dec.{eqb, ltb}
-use lib.ListN.{length, drop}
+use lib.ListN.{length, take, drop}
 use borrow.Author.Tests.{ne-eqb, lt-ltb, le-ltb, eqb-true, eqb-false, ltb-true, ltb-false}
-use Rattle.frames.specs.Bytes.{Kind, dataByte, exclusive, endOfExclusive, otherStatus, realTime, kindOf, ends, body}
+use Rattle.frames.specs.Bytes.{Kind, dataByte, exclusive, endOfExclusive, otherStatus, realTime, kindOf, ends, isRealTime, body}
 
 -- The bytes of a kind.
 abbrev pub Lies : Kind → ℕ → Type 0
@@ -48,6 +48,28 @@ lies-in k b e = rw e at (lies b)
 -- A byte below F8H is not real time.
 pub not-real-time : (y : ℕ) → y < 0xF8 → kindOf y ≡ realTime → ⊥
 not-real-time y h e = let l = lies-in realTime y e in omega arith
+
+-- Nor is it dropped.
+pub stays : (b : ℕ) → b ≤ 0xF7 → isRealTime (kindOf b) ≡ false
+stays b h = go (kindOf b) (lies b)
+  where
+    go : (k : Kind) → Lies k b → isRealTime k ≡ false
+    go dataByte l = refl
+    go exclusive l = refl
+    go endOfExclusive l = refl
+    go otherStatus l = refl
+    go realTime l = absurd (omega arith)
+
+-- A byte in 80H..F7H ends a message.
+pub ends-there : (b : ℕ) → 0x80 ≤ b → b ≤ 0xF7 → ends (kindOf b) ≡ true
+ends-there b h h′ = go (kindOf b) (lies b)
+  where
+    go : (k : Kind) → Lies k b → ends k ≡ true
+    go dataByte l = absurd (omega arith)
+    go exclusive l = refl
+    go endOfExclusive l = refl
+    go otherStatus l = refl
+    go realTime l = absurd (omega arith)
 
 -- What a byte that ends a message can be.
 pub data Ending (x : ℕ) : Type 0 where
@@ -96,3 +118,13 @@ body-within (b ∷ t) = go (ends (kindOf b)) (body-within t)
     go : (v : Bool) → length (body t) ≤ length t → length (cond v [] (b ∷ body t)) ≤ suc (length t)
     go true i = omega arith
     go false i = omega arith
+
+-- The body is the bytes before the one that ends it.
+pub body-take : (t : List ℕ) → take (length (body t)) t ≡ body t
+unfolding body
+body-take [] = refl
+body-take (b ∷ t) = go (ends (kindOf b)) (body-take t)
+  where
+    go : (v : Bool) → take (length (body t)) t ≡ body t → take (length (cond v [] (b ∷ body t))) (b ∷ t) ≡ cond v [] (b ∷ body t)
+    go true i = refl
+    go false i = ap (λ (l : List ℕ). b ∷ l) i

@@ -1,18 +1,18 @@
 -- What the two states hand to each other: the scan from outside by the count of bytes before the first F0H, and from inside by the byte
 -- that ends the message.
-use mathlib.Core.Path.{_≡_, refl, sym, ap, _∙_}
+use mathlib.Core.Path.{_≡_, refl}
 use mathlib.Core.Bool.{Bool, true, false, cond}
-use mathlib.Core.List.{List, [], _∷_, _++_}
+use mathlib.Core.List.{List, [], _∷_}
 use Prim.Native.Nat.{ℕ, suc, _+_, _≤_, _<_}
 use native.Mathlib.Nat.{add-zero}
 use native.Mathlib.Omega.{arith}
 use lib.Dec.{eqb}
 use lib.ListN.{length, drop, getD, drop-of-length-le}
-use borrow.Author.Tests.{eqb-true, eqb-false, eq-eqb}
+use borrow.Author.Tests.{eqb-true, eqb-false}
 use Rattle.answers.specs.Table.{Verdict}
 use Rattle.frames.specs.Bytes.{body}
 use Rattle.frames.specs.Extent.{ahead}
-use Rattle.frames.specs.Stream.{Report, messageAt}
+use Rattle.frames.specs.Stream.{messageAt}
 use Rattle.frames.specs.Scan.{outside, inside, scan}
 use Rattle.frames.proofs.Extent.{split}
 use Rattle.frames.proofs.Scan.{further, scan-outside}

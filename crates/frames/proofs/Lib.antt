@@ -1,7 +1,9 @@
 pub mod Bytes
 pub mod Extent
+pub mod Kept
 pub mod Scan
 pub mod Walk
+pub mod Found
 pub mod Order
 pub mod OneByte
 pub mod Handing

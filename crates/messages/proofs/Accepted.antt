@@ -1,19 +1,19 @@
 -- What an accepted message is: its record, by its content, and the nibbles that its packed bytes come from.
-use mathlib.Core.Path.{_≡_, refl, sym, ap, _∙_}
-use mathlib.Core.Bool.{Bool, true, false, not}
-use mathlib.Core.List.{List, [], _∷_, _++_}
-use mathlib.Core.Option.{Option, none, some}
-use Prim.Native.Nat.{ℕ, _+_, _*_, _≤_, _<_}
+use mathlib.Core.Path.{_≡_, refl}
+use mathlib.Core.Bool.{true, false, not}
+use mathlib.Core.List.{List, [], _∷_}
+use mathlib.Core.Option.{none}
+use Prim.Native.Nat.{ℕ, _+_, _*_, _<_}
 use native.Mathlib.Omega.{arith}
 use lib.Dec.{eqb}
-use lib.ListN.{length, take, drop, getD}
-use Rattle.answers.specs.Table.{Verdict, done, refused, answerOf, says, row}
-use Rattle.answers.proofs.Rows.{Silent, first-passed}
+use lib.ListN.{length, take, drop}
+use Rattle.answers.specs.Table.{done, answerOf, says, row}
+use Rattle.answers.proofs.Rows.{Silent, first-passed, zero-silent, row-silent, row-at-silent, row-equal}
 use Rattle.frames.specs.Bytes.{framed}
 use Rattle.nibbles.specs.Nibbles.{pack, firstWide, wideFrom}
 use Rattle.messages.specs.Kinds.{Kind, singlePatch, masterParameters, remoteEdit, busEdit, editBuffer, unknown, kindOf, lengthOf, isUnknown}
 use Rattle.messages.specs.Judge.{byteAt, dataOf, packedOf, dataRows, patchDataRows, kindRows, messageRows, recordOf, judge}
-use Rattle.messages.proofs.Numbers.{zero-silent, row-positive, row-finds-none, row-equal, row-fails}
+use Rattle.messages.proofs.Numbers.{message-refusals}
 use Rattle.messages.proofs.Content.{framed-length, framed-data}
 
 -- The size of a dump's packed bytes by its opcode; an edit has none.
@@ -65,18 +65,18 @@ pub accepted : (c : List ℕ) → answerOf (judge (framed c)) ≡ 0 → Accepted
 unfolding judge dataRows patchDataRows
 accepted c z =
     let m = framed c in
-    let s = zero-silent (messageRows m) (recordOf (kindOf (byteAt m 3)) m) (row-positive m) z in
+    let s = zero-silent (messageRows m) (recordOf (kindOf (byteAt m 3)) m) (message-refusals m) z in
     by-kind (kindOf (byteAt m 3)) (s .1 .1 .0) (s .1 .1 .1 .0) (s .1 .1 .1 .1) (first-passed (messageRows m) (recordOf (kindOf (byteAt m 3)) m) s)
   where
     by-kind : (k : Kind) → says (row 6 (isUnknown k)) ≡ none → says (row 7 (not (eqb (length (framed c)) (lengthOf k)))) ≡ none → Silent (kindRows k (framed c))
         → judge (framed c) ≡ recordOf k (framed c) → Accepted c
     by-kind singlePatch u l s v =
-        dump-accepted c 134 (row-equal 7 _ _ l) 0x01 (byteAt (framed c) 4 ∷ []) patch-size v (row-finds-none 9 _ (s .1 .0))
+        dump-accepted c 134 (row-equal 7 _ _ l) 0x01 (byteAt (framed c) 4 ∷ []) patch-size v (row-at-silent 9 _ (s .1 .0))
     by-kind masterParameters u l s v =
-        dump-accepted c 172 (row-equal 7 _ _ l) 0x03 [] master-size v (row-finds-none 9 _ (s .1 .0))
+        dump-accepted c 172 (row-equal 7 _ _ l) 0x03 [] master-size v (row-at-silent 9 _ (s .1 .0))
     by-kind remoteEdit u l s v = edit-accepted c 0x06 (byteAt (framed c) 4 ∷ byteAt (framed c) 5 ∷ []) edit-size v
     by-kind busEdit u l s v =
         edit-accepted c 0x0B (byteAt (framed c) 4 ∷ byteAt (framed c) 5 ∷ byteAt (framed c) 6 ∷ byteAt (framed c) 7 ∷ []) bus-size v
     by-kind editBuffer u l s v =
-        dump-accepted c 134 (row-equal 7 _ _ l) 0x0D [] buffer-size v (row-finds-none 9 _ (s .1 .0))
-    by-kind unknown u l s v = let e : true ≡ false = row-fails 6 true u in let y : _≡_ {A = ℕ} 0 1 = cc in absurd (omega arith)
+        dump-accepted c 134 (row-equal 7 _ _ l) 0x0D [] buffer-size v (row-at-silent 9 _ (s .1 .0))
+    by-kind unknown u l s v = let e : true ≡ false = row-silent 6 true u in let y : _≡_ {A = ℕ} 0 1 = cc in absurd (omega arith)

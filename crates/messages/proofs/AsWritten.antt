@@ -10,7 +10,7 @@ use lib.ListN.{length, take, getD, length-append, drop-of-length-le}
 use lib.Seq.{split-at, length-take-le}
 use borrow.Author.Tests.{eqb-true}
 use Rattle.answers.specs.Table.{Verdict, done, refused, answerOf}
-use Rattle.answers.proofs.Rows.{Silent, done-passed}
+use Rattle.answers.proofs.Rows.{Silent, done-passed, row-silent, row-equal, row-at-silent}
 use Rattle.frames.specs.Bytes.{framed}
 use Rattle.nibbles.specs.Nibbles.{nibbles, pack, sum, firstWide}
 use Rattle.nibbles.proofs.Laws.{length-pack, nibbles-pack, wide-none}
@@ -18,7 +18,7 @@ use Rattle.edits.specs.Edits.{editRows, busRows}
 use Rattle.messages.specs.Kinds.{Kind, singlePatch, masterParameters, remoteEdit, busEdit, editBuffer, unknown, kindOf, lengthOf, isUnknown}
 use Rattle.messages.specs.Judge.{messageRows, kindRows, recordOf, judge}
 use Rattle.messages.specs.Layout.{messageOf, dump, editMessage, busMessage}
-use Rattle.messages.proofs.Numbers.{row-fails, row-finds-none, row-equal, done-head}
+use Rattle.messages.proofs.Numbers.{done-head}
 use Rattle.messages.proofs.DumpLaws.{DumpKind, ofPatch, ofBuffer, ofMaster, opcodeOf, sizeOf, misnumbered, packedRows, bytesOf, dumpRows, dump-tested}
 
 -- A dump, an edit or a bus edit as our writers write it, with the verdict of its record, and its writer's rows say nothing.
@@ -80,10 +80,10 @@ module _ (op : ℕ) (bytes packed : List ℕ) where
       let whole = ap (λ (l : List ℕ). messageOf (opcodeOf k) (n ∷ l)) (last-apart w size long) in
       let tested = sym (dump-tested k n d s half) ∙ ap judge (sym whole) ∙ e in
       let passed = done-passed (dumpRows k n d s) (done (opcodeOf k) (bytesOf k n) (pack d)) op bytes packed tested in
-      let narrow = wide-none 0 d (row-finds-none 9 (firstWide d) (passed .0 .1 .0)) in
+      let narrow = wide-none 0 d (row-at-silent 9 (firstWide d) (passed .0 .1 .0)) in
       let summed = row-equal 10 s (sum (pack d)) (passed .0 .1 .1 .0) in
       ofDump k n (pack d) (whole ∙ dump-back k n d s (nibbles-pack d (omega arith) narrow) summed) (sym (passed .1))
-      (row-fails 8 (misnumbered k n) (passed .0 .0)) (omega (arith, length-pack d)) (passed .0 .1 .1 .1)
+      (row-silent 8 (misnumbered k n) (passed .0 .0)) (omega (arith, length-pack d)) (passed .0 .1 .1 .1)
 
   -- What a message with the opcode o and the bytes r behind it has passed where it is accepted.
   record Passed (k : Kind) (o : ℕ) (r : List ℕ) : Type 0 where
@@ -101,7 +101,7 @@ module _ (op : ℕ) (bytes packed : List ℕ) where
       let size = row-equal 7 (length m) (lengthOf k) (silent .1 .1 .1 .0) in
       record {
         long = omega (arith, length-append r (0xF7 ∷ []));
-        known = row-fails 6 (isUnknown k) (silent .1 .1 .0);
+        known = row-silent 6 (isUnknown k) (silent .1 .1 .0);
         rows = silent .1 .1 .1 .1;
         same = rw q at (p .1);
       }

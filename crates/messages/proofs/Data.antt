@@ -1,13 +1,11 @@
 -- What packing a dump's data into a buffer that just fits it tells: 9, or the packed bytes.
 use mathlib.Core.Path.{_≡_, refl, sym, ap, _∙_}
-use mathlib.Core.List.{List, [], _∷_, _++_, append-nil}
+use mathlib.Core.List.{List, [], append-nil}
 use mathlib.Core.Option.{Option, none, some}
 use Prim.Native.Nat.{ℕ, _*_, _/_, _%_, _≤_}
 use native.Mathlib.Omega.{arith}
 use lib.ListN.{length, drop, drop-of-length-le}
-use lib.Dec.{eqb}
 use borrow.Author.Tests.{eq-eqb, ne-eqb}
-use Rattle.answers.specs.Table.{Row, row, rowAt}
 use Rattle.answers.specs.Effect.{Gives, outcome, tested}
 use Rattle.answers.specs.declared.Outcome.{Outcome}
 use Rattle.nibbles.specs.Nibbles.{pack, sum, firstWide, packing}
@@ -81,11 +79,11 @@ module _ (ns out after : List ℕ) (p : Outcome) (fits : length ns ≡ 2 * lengt
 
 pub data-refusals : (ns : List ℕ) (s : ℕ) → Refusals (dataRows ns s)
 unfolding dataRows
-data-refusals ns s = ((λ z. omega arith), ((λ z. omega arith), tt))
+data-refusals ns s = omega arith
 
 pub patch-data-refusals : (ns : List ℕ) (s : ℕ) → Refusals (patchDataRows ns s)
 unfolding dataRows patchDataRows
-patch-data-refusals ns s = ((λ z. omega arith), ((λ z. omega arith), ((λ z. omega arith), ((λ z. omega arith), tt))))
+patch-data-refusals ns s = omega arith
 
 -- The test of a patch dump's data: stopped at the data and the sum, or left to the fields of the packed bytes.
 module _ (ns : List ℕ) (s : ℕ) (after : List ℕ) (d : Outcome) (k : Checked ns s after d) where

@@ -11,14 +11,13 @@ use lib.Seq.{take-at, getD-at, getD-drop}
 use borrow.Author.Tests.{eq-eqb, ne-eqb}
 use Rattle.answers.specs.Lists.{All}
 use Rattle.answers.specs.Table.{Row, row, rowAt, done, refused, first, answerOf}
-use Rattle.answers.proofs.Rows.{Silent, first-passed}
+use Rattle.answers.proofs.Rows.{Silent, Refusals, first-passed, zero-silent, row-at-silent, row-equal}
 use Rattle.nibbles.specs.Nibbles.{nibbles, pack, sum, firstWide}
 use Rattle.nibbles.proofs.Laws.{length-nibbles, pack-nibbles, nibbles-narrow, not-wide, wide-none}
 use Rattle.patch.specs.Patch.{fieldRows}
 use Rattle.messages.specs.Kinds.{kindOf}
 use Rattle.messages.specs.Judge.{dataOf, packedOf, sumOf, dataRows, patchDataRows, judge}
 use Rattle.messages.specs.Layout.{messageOf, dump}
-use Rattle.messages.proofs.Numbers.{numberOf, zero-silent, row-finds-none, row-equal}
 
 -- The kinds of dump: a numbered patch, a patch for the edit buffer, a master.
 pub data DumpKind : Type 0 where
@@ -105,10 +104,10 @@ dump-accepted k n p number l bytes passed =
     ∙ rw (number, not-wide 0 (nibbles p) (nibbles-narrow p bytes), pack-nibbles p, eq-eqb (sum p) (sum p) refl)
     (first-passed (packedRows k p) (done (opcodeOf k) (bytesOf k n) p) passed)
 
-rows-positive : (k : DumpKind) (n : ℕ) (d : List ℕ) (s : ℕ) → All (λ r. 0 < numberOf r) (dumpRows k n d s)
-rows-positive ofPatch n d s = omega arith
-rows-positive ofBuffer n d s = omega arith
-rows-positive ofMaster n d s = omega arith
+dump-refusals : (k : DumpKind) (n : ℕ) (d : List ℕ) (s : ℕ) → Refusals (dumpRows k n d s)
+dump-refusals ofPatch n d s = omega arith
+dump-refusals ofBuffer n d s = omega arith
+dump-refusals ofMaster n d s = omega arith
 
 -- Nibbles for data bytes, their sum, and packed bytes that pass the tests.
 pub record Passed (k : DumpKind) (d : List ℕ) (s : ℕ) : Type 0 where
@@ -120,9 +119,9 @@ pub record Passed (k : DumpKind) (d : List ℕ) (s : ℕ) : Type 0 where
 pub dump-passed : (k : DumpKind) (n : ℕ) (d : List ℕ) (s : ℕ) → length d ≡ 2 * sizeOf k
     → answerOf (judge (messageOf (opcodeOf k) (n ∷ (d ++ (s ∷ []))))) ≡ 0 → Passed k d s
 dump-passed k n d s l e =
-    let q = zero-silent (dumpRows k n d s) (done (opcodeOf k) (bytesOf k n) (pack d)) (rows-positive k n d s) (rw (dump-tested k n d s l) at e) in
+    let q = zero-silent (dumpRows k n d s) (done (opcodeOf k) (bytesOf k n) (pack d)) (dump-refusals k n d s) (rw (dump-tested k n d s l) at e) in
     record {
-      narrow = wide-none 0 d (row-finds-none 9 (firstWide d) (q .1 .0));
+      narrow = wide-none 0 d (row-at-silent 9 (firstWide d) (q .1 .0));
       summed = row-equal 10 s (sum (pack d)) (q .1 .1 .0);
       packed = q .1 .1 .1;
     }

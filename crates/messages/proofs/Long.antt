@@ -1,15 +1,17 @@
 -- A message longer than the longest is refused by its first bytes and its length alone: what stands behind does not matter.
-use mathlib.Core.Path.{_≡_, refl, sym, ap, _∙_}
+use mathlib.Core.Path.{_≡_, refl, sym, _∙_}
 use mathlib.Core.Bool.{Bool, true, false, not}
-use mathlib.Core.List.{List, [], _∷_, _++_}
-use Prim.Native.Nat.{ℕ, suc, _+_, _<_, _≤_}
+use mathlib.Core.List.{List, [], _∷_}
+use Prim.Native.Nat.{ℕ, suc, _<_, _≤_}
 use native.Mathlib.Omega.{arith}
 use lib.Dec.{eqb}
-use lib.ListN.{length, take, getD, length-append}
+use lib.ListN.{length, take}
 use lib.Seq.{length-take-le, getD-take}
 use borrow.Author.Tests.{ne-eqb}
 use Rattle.answers.specs.Table.{Row, row, Verdict, refused, first}
 use Rattle.frames.specs.Bytes.{framed}
+use Rattle.frames.specs.Extent.{Kept}
+use Rattle.frames.proofs.Kept.{kept-front}
 use Rattle.messages.specs.Kinds.{Kind, singlePatch, masterParameters, remoteEdit, busEdit, editBuffer, unknown, kindOf, lengthOf, isUnknown}
 use Rattle.messages.specs.Judge.{byteAt, judge, kindRows, recordOf}
 use Rattle.messages.proofs.Content.{framed-length, framed-byte}
@@ -46,3 +48,7 @@ judge-long c h =
     λ i k. framed-byte (take 350 c) i (omega arith) ∙ (getD-take 350 c i 0 k ∙ sym (framed-byte c i (omega arith))) in
     by-head (framed (take 350 c)) (omega (arith, framed-length (take 350 c)))
     ∙ (rw (same 0 (omega arith), same 1 (omega arith), same 2 (omega arith)) refl ∙ sym (by-head (framed c) (omega (arith, framed-length c))))
+
+-- So do the 350 bytes of a buffer into which a message of 350 bytes or more was kept.
+pub judge-front : {w old new : List ℕ} {n : ℕ} → length old ≡ 350 → Kept w old new n → 350 ≤ n → judge (framed new) ≡ judge (framed w)
+judge-front {w} {old} {new} {n} l k h = rw (kept-front w old new n l k h) (judge-long w (omega (arith, k .count)))

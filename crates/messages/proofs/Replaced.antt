@@ -11,7 +11,7 @@ use lib.Seq.{append-snoc}
 use Rattle.answers.specs.Lists.{All}
 use Rattle.answers.specs.Table.{answerOf}
 use Rattle.answers.proofs.Lists.{all-at}
-use Rattle.answers.proofs.Rows.{Silent}
+use Rattle.answers.proofs.Rows.{Silent, row-at-silent}
 use Rattle.frames.specs.Bytes.{framed}
 use Rattle.nibbles.specs.Nibbles.{nibbles, pack, sum}
 use Rattle.nibbles.proofs.Laws.{length-nibbles, pack-nibbles, pack-low, pack-high, low-changes-sum, high-changes-sum, Position, at-low, at-high, at-sum, position}
@@ -19,7 +19,7 @@ use Rattle.patch.specs.Patch.{firstOut}
 use Rattle.patch.proofs.Rules.{fields-bytes, fields-apart}
 use Rattle.messages.specs.Judge.{judge}
 use Rattle.messages.specs.Layout.{messageOf}
-use Rattle.messages.proofs.Numbers.{row-finds-none, done-head}
+use Rattle.messages.proofs.Numbers.{done-head}
 use Rattle.messages.proofs.DumpLaws.{DumpKind, ofPatch, ofBuffer, ofMaster, opcodeOf, sizeOf, packedRows, dump-passed}
 
 -- The dumps of a patch.
@@ -35,8 +35,8 @@ patch-size ofBuffer i = refl
 patch-size ofMaster i = absurd i
 
 in-range : (k : DumpKind) → IsPatch k → (p : List ℕ) → Silent (packedRows k p) → firstOut p ≡ none
-in-range ofPatch i p a = row-finds-none 11 (firstOut p) (a .0)
-in-range ofBuffer i p a = row-finds-none 11 (firstOut p) (a .0)
+in-range ofPatch i p a = row-at-silent 11 (firstOut p) (a .0)
+in-range ofBuffer i p a = row-at-silent 11 (firstOut p) (a .0)
 in-range ofMaster i p a = absurd i
 
 module _ (k : DumpKind) (patch : IsPatch k) (n : ℕ) (p : List ℕ) (l : length p ≡ 134) (ok : firstOut p ≡ none) where

@@ -1,81 +1,93 @@
 -- What a message of a kind comes to, by the answer that its rows are given.
 use mathlib.Core.Path.{_≡_, refl, sym, ap, _∙_}
 use mathlib.Core.Bool.{Bool, true, false, not}
-use mathlib.Core.List.{List, [], _∷_, _++_}
-use Prim.Native.Nat.{ℕ, _+_, _<_, _≤_}
+use mathlib.Core.List.{List, [], _∷_}
+use Prim.Native.Nat.{ℕ, _+_}
 use native.Mathlib.Omega.{arith}
 use lib.Dec.{eqb, ltb}
 use lib.ListN.{length, take, drop, getD}
 use borrow.Author.Tests.{eq-eqb, ne-eqb}
-use Rattle.answers.specs.Table.{Row, row, Verdict, refused, first}
+use Rattle.answers.specs.Table.{Row, row, refused, first}
 use Rattle.answers.specs.Effect.{tested}
 use Rattle.answers.specs.declared.Outcome.{Outcome}
-use Rattle.answers.proofs.Rows.{Refusals, first-stopped, first-zero}
+use Rattle.answers.proofs.Rows.{Refusals, first-passed, first-stopped}
+use Rattle.answers.proofs.Effects.{passed}
 use Rattle.frames.specs.Bytes.{framed}
 use Rattle.edits.specs.Edits.{editRows, busRows}
+use Rattle.edits.proofs.Tests.{edit-refusals, bus-refusals}
 use Rattle.messages.specs.declared.judged.Judged.{Judged}
 use Rattle.messages.specs.Kinds.{Kind, singlePatch, masterParameters, remoteEdit, busEdit, editBuffer, kindOf, lengthOf, isUnknown}
-use Rattle.messages.specs.Judge.{byteAt, kindRows, recordOf, kindVerdict, opcodeVerdict, judge}
+use Rattle.messages.specs.Judge.{byteAt, dataOf, sumOf, patchDataRows, kindRows, recordOf, kindVerdict, opcodeVerdict, judge}
 use Rattle.messages.specs.Judged.{judged, judgedAs, numberedRows, masterRows}
 use Rattle.messages.proofs.Data.{data-refusals, patch-data-refusals}
 use Rattle.messages.proofs.Content.{framed-length, framed-byte, framed-data, framed-sum}
 
-module _ (k : Kind) (c : List ℕ) where
-  pub kind-length : (length c + 2 ≡ lengthOf k → ⊥) → judgedAs 7 0 0 0 0 0 ≡ judged (kindVerdict k (framed c))
+-- A content of another length than the kind's.
+pub kind-length : (k : Kind) (c : List ℕ) → (length c + 2 ≡ lengthOf k → ⊥) → judgedAs 7 0 0 0 0 0 ≡ judged (kindVerdict k (framed c))
+unfolding kindVerdict
+kind-length k c n = rw (framed-length c, ne-eqb (length c + 2) (lengthOf k) n)
+
+-- What the code has of a kind's message with the content c, where the length is right: its rows, and the answer where they say nothing.
+pub record Judging (k : Kind) (c : List ℕ) (rows : List Row) (j : Judged) : Type 0 where
+  pub tests : length c + 2 ≡ lengthOf k → kindRows k (framed c) ≡ rows
+  pub refusals : Refusals rows
+  pub accepts : length c + 2 ≡ lengthOf k → judged (recordOf k (framed c)) ≡ j
+
+-- The rows are answered d: the message is refused by that, or accepted.
+module _ {k : Kind} {c : List ℕ} {rows : List Row} {j : Judged} (i : Judging k c rows j) (l : length c + 2 ≡ lengthOf k)
+    {d : Outcome} (t : d ≡ tested rows) where
+  whole : kindVerdict k (framed c) ≡ first rows (recordOf k (framed c))
   unfolding kindVerdict
-  kind-length n = rw (framed-length c, ne-eqb (length c + 2) (lengthOf k) n)
+  whole = rw (framed-length c, eq-eqb (length c + 2) (lengthOf k) l, i .tests l)
 
-  whole : (rows : List Row) → length c + 2 ≡ lengthOf k → kindRows k (framed c) ≡ rows → kindVerdict k (framed c) ≡ first rows (recordOf k (framed c))
-  unfolding kindVerdict
-  whole rows l e = rw (framed-length c, eq-eqb (length c + 2) (lengthOf k) l, e)
+  pub kind-stopped : (d .answer ≡ 0 → ⊥) → judgedAs (d .answer) (d .detail) 0 0 0 0 ≡ judged (kindVerdict k (framed c))
+  kind-stopped n = rw (t, whole, first-stopped rows (recordOf k (framed c)) (λ z. n (ap (λ (o : Outcome). o .answer) t ∙ z)))
 
-  -- The rows are answered d.
-  module _ (rows : List Row) (l : length c + 2 ≡ lengthOf k) (e : kindRows k (framed c) ≡ rows) (d : Outcome) (t : d ≡ tested rows) where
-    pub kind-stopped : (d .answer ≡ 0 → ⊥) → judgedAs (d .answer) (d .detail) 0 0 0 0 ≡ judged (kindVerdict k (framed c))
-    kind-stopped n =
-        let s = whole rows l e ∙ first-stopped rows (recordOf k (framed c)) (λ z. n (ap (λ (o : Outcome). o .answer) t ∙ z)) in
-        rw (t, s)
+  pub kind-done : d .answer ≡ 0 → j ≡ judged (kindVerdict k (framed c))
+  kind-done z = rw (whole, first-passed rows (recordOf k (framed c)) (passed rows d (i .refusals) t z)) (sym (i .accepts l))
 
-    pub kind-done : Refusals rows → d .answer ≡ 0 → judged (recordOf k (framed c)) ≡ judged (kindVerdict k (framed c))
-    kind-done a z =
-        let s = whole rows l e ∙ first-zero rows (recordOf k (framed c)) a (sym (ap (λ (o : Outcome). o .answer) t) ∙ z) in
-        rw s
-
--- The rows of each kind, from the content.
+-- Each of the five kinds.
 module _ (c : List ℕ) where
-  pub single-rows : length c ≡ 273 → kindRows singlePatch (framed c) ≡ numberedRows c 99
+  numbered-rows : (top : ℕ) → length c ≡ 273
+      → row 8 (ltb top (byteAt (framed c) 4)) ∷ patchDataRows (dataOf 134 (framed c)) (sumOf 134 (framed c)) ≡ numberedRows c top
   unfolding numberedRows
-  single-rows l = rw (framed-byte c 3 (omega arith), framed-data 134 c l, framed-sum 134 c l)
+  numbered-rows top l = rw (framed-byte c 3 (omega arith), framed-data 134 c l, framed-sum 134 c l)
 
-  pub buffer-rows : length c ≡ 273 → kindRows editBuffer (framed c) ≡ numberedRows c 0
+  numbered-refusals : (top : ℕ) → Refusals (numberedRows c top)
   unfolding numberedRows
-  buffer-rows l = rw (framed-byte c 3 (omega arith), framed-data 134 c l, framed-sum 134 c l)
+  numbered-refusals top = (omega arith, patch-data-refusals (take 268 (drop 4 c)) (getD c 272 0))
 
-  pub master-rows : length c ≡ 349 → kindRows masterParameters (framed c) ≡ masterRows c
+  pub single : Judging singlePatch c (numberedRows c 99) (judgedAs 0 0x01 (getD c 3 0) 0 0 0)
+  single = record {
+    tests = λ l. numbered-rows 99 (omega arith);
+    refusals = numbered-refusals 99;
+    accepts = λ l. rw (framed-byte c 3 (omega arith));
+  }
+
+  pub buffer : Judging editBuffer c (numberedRows c 0) (judgedAs 0 0x0D 0 0 0 0)
+  buffer = record { tests = λ l. numbered-rows 0 (omega arith); refusals = numbered-refusals 0; accepts = λ l. refl }
+
+  pub master : Judging masterParameters c (masterRows c) (judgedAs 0 0x03 0 0 0 0)
   unfolding masterRows
-  master-rows l = rw (framed-byte c 3 (omega arith), framed-data 172 c l, framed-sum 172 c l)
+  master = record {
+    tests = λ l. rw (framed-byte c 3 (omega arith), framed-data 172 c (omega arith), framed-sum 172 c (omega arith));
+    refusals = (omega arith, data-refusals (take 344 (drop 4 c)) (getD c 348 0));
+    accepts = λ l. refl;
+  }
 
-  pub numbered-refusals : (top : ℕ) → Refusals (numberedRows c top)
-  unfolding numberedRows
-  numbered-refusals top = ((λ z. omega arith), patch-data-refusals (take 268 (drop 4 c)) (getD c 272 0))
+  pub edit : Judging remoteEdit c (editRows (getD c 3 0) (getD c 4 0)) (judgedAs 0 0x06 (getD c 3 0) (getD c 4 0) 0 0)
+  edit = record {
+    tests = λ l. rw (framed-byte c 3 (omega arith), framed-byte c 4 (omega arith));
+    refusals = edit-refusals (getD c 3 0) (getD c 4 0);
+    accepts = λ l. rw (framed-byte c 3 (omega arith), framed-byte c 4 (omega arith));
+  }
 
-  pub master-refusals : Refusals (masterRows c)
-  unfolding masterRows
-  master-refusals = ((λ z. omega arith), data-refusals (take 344 (drop 4 c)) (getD c 348 0))
-
-  pub edit-rows : length c ≡ 5 → kindRows remoteEdit (framed c) ≡ editRows (getD c 3 0) (getD c 4 0)
-  edit-rows l = rw (framed-byte c 3 (omega arith), framed-byte c 4 (omega arith))
-
-  pub bus-rows : length c ≡ 7 → kindRows busEdit (framed c) ≡ busRows (getD c 3 0) (getD c 4 0) (getD c 5 0) (getD c 6 0)
-  bus-rows l = rw (framed-byte c 3 (omega arith), framed-byte c 4 (omega arith), framed-byte c 5 (omega arith), framed-byte c 6 (omega arith))
-
-pub edit-refusals : (n v : ℕ) → Refusals (editRows n v)
-unfolding editRows
-edit-refusals n v = ((λ z. omega arith), ((λ z. omega arith), tt))
-
-pub bus-refusals : (b s a d : ℕ) → Refusals (busRows b s a d)
-unfolding busRows
-bus-refusals b s a d = ((λ z. omega arith), ((λ z. omega arith), ((λ z. omega arith), ((λ z. omega arith), tt))))
+  pub bus : Judging busEdit c (busRows (getD c 3 0) (getD c 4 0) (getD c 5 0) (getD c 6 0)) (judgedAs 0 0x0B (getD c 3 0) (getD c 4 0) (getD c 5 0) (getD c 6 0))
+  bus = record {
+    tests = λ l. rw (framed-byte c 3 (omega arith), framed-byte c 4 (omega arith), framed-byte c 5 (omega arith), framed-byte c 6 (omega arith));
+    refusals = bus-refusals (getD c 3 0) (getD c 4 0) (getD c 5 0) (getD c 6 0);
+    accepts = λ l. rw (framed-byte c 3 (omega arith), framed-byte c 4 (omega arith), framed-byte c 5 (omega arith), framed-byte c 6 (omega arith));
+  }
 
 -- The rows 4 and 5, and what is left to the opcode.
 module _ (m : List ℕ) where

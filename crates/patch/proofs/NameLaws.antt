@@ -9,14 +9,15 @@ use lib.Dec.{eqb, ltb}
 use lib.ListN.{length, getD, take, drop, length-map, length-append, length-drop, take-append-drop}
 use lib.Seq.{length-take-le, take-at, getD-append-add, getD-drop}
 use borrow.Author.Tests.{eq-eqb, lt-ltb, le-ltb, ltb-true, ltb-false}
-use Rattle.answers.specs.Table.{Row, row, Verdict, done, first}
-use Rattle.answers.specs.Effect.{changed, tested, outcome}
+use Rattle.answers.specs.Table.{Row, row, done, first}
+use Rattle.answers.specs.Effect.{Effect, changed, outcome}
 use Rattle.answers.specs.Lists.{All}
+use Rattle.answers.proofs.Rows.{Silent, first-passed, row-silent, row-equal}
+use Rattle.answers.proofs.Effects.{changed-silent, written-fits, written-done}
 use Rattle.patch.specs.Patch.{outFrom, firstOut, halfFrom, firstHalf, fieldRows, patchRows}
 use Rattle.patch.specs.Names.{shown, stored, anyOutside, naming, showing}
 use Rattle.patch.proofs.Rules.{one-in, one-more-in, none-out, out-join, out-split, name-accepts, name-byte}
-use Rattle.patch.proofs.Answers.{Passes, all-pass, passed-over, changed-zero, passed-zero}
-use Rattle.patch.proofs.Tests.{patch-passed, right-length}
+use Rattle.patch.proofs.Tests.{patch-refusals, fields-pass, patch-length, patch-silent}
 
 -- A name of eight allowed characters, set in 134 bytes, goes by the fields alone.
 pub naming-fields : (p text : List ℕ) → length p ≡ 134 → length text ≡ 8 → anyOutside text ≡ false
@@ -27,16 +28,6 @@ naming-fields p text right eight inside = simp (eq-eqb _ _ right, eq-eqb _ _ eig
 -- The name of a patch that passes its tests has eight characters.
 pub length-shown : (p : List ℕ) → length p ≡ 134 → length (map shown (take 8 p)) ≡ 8
 length-shown p e = length-map (take 8 p) shown ∙ length-take-le 8 p (omega arith)
-
--- A patch that passes its tests is shown where the output has room.
-pub showing-room : (p out : List ℕ) → tested (patchRows p) .answer ≡ 0
-    → showing p out ≡ changed 8 (map shown (take 8 p) ++ drop 8 out) out (first (row 13 (ltb (length out) 8) ∷ []) (done 0 [] []))
-unfolding showing
-showing-room p out e =
-    let h = patch-passed p e in
-    let eight = length-shown p (right-length p 134 (h .0)) in
-    let over = passed-over (patchRows p) (row 13 (ltb (length out) 8) ∷ []) (done 0 [] []) h in
-    rw eight (ap (changed 8 (map shown (take 8 p) ++ drop 8 out) out) over)
 
 -- A character of 32..95 is shown again as itself once it is stored.
 pub shown-stored : (t : ℕ) → 32 ≤ t → t ≤ 95 → shown (stored t) ≡ t
@@ -179,35 +170,32 @@ shown-set p l e = rw (go (take 8 p) (name-small p l e)) (take-append-drop 8 p)
 abbrev nameRows : List ℕ → List ℕ → List Row
 nameRows p text = row 7 (not (eqb (length p) 134)) ∷ row 7 (not (eqb (length text) 8)) ∷ row 8 (anyOutside text) ∷ fieldRows p
 
--- Where they pass, the text's bytes are stored.
-naming-done : (p text : List ℕ) → All Passes (nameRows p text)
-    → naming p text ≡ record { result = outcome 0 0; lent = map stored text ++ drop 8 p }
+-- Where they say nothing, the text's bytes are stored.
+naming-done : (p text : List ℕ) → Silent (nameRows p text) → naming p text ≡ record { result = outcome 0 0; lent = map stored text ++ drop 8 p }
 unfolding naming
-naming-done p text a = ap (changed 0 (map stored text ++ drop 8 p) p) (passed-over (nameRows p text) [] (done 0 [] []) a)
+naming-done p text a = ap (changed 0 (map stored text ++ drop 8 p) p) (first-passed (nameRows p text) (done 0 [] []) a)
 
--- Where setting is done, they passed.
-name-taken : (p text : List ℕ) → naming p text .result .answer ≡ 0 → All Passes (nameRows p text)
+-- Where setting is done, they say nothing.
+name-taken : (p text : List ℕ) → naming p text .result .answer ≡ 0 → Silent (nameRows p text)
 unfolding naming
-name-taken p text e =
-    all-pass (nameRows p text) (λ z. omega arith, (λ z. omega arith, (λ z. omega arith, (λ z. omega arith, (λ z. omega arith, tt)))))
-    (changed-zero (nameRows p text) 0 (map stored text ++ drop 8 p) p e)
-
-is-right : (p : List ℕ) (n : ℕ) → length p ≡ n → not (eqb (length p) n) ≡ false
-is-right p n e = simp (eq-eqb _ _ e)
+name-taken p text e = changed-silent 0 (map stored text ++ drop 8 p) p (nameRows p text) (omega arith) e
 
 -- A name that is set is the name that is shown.
 pub set-then-shown : (p text out : List ℕ) → naming p text .result .answer ≡ 0 → 8 ≤ length out
     → showing (naming p text .lent) out ≡ record { result = outcome 0 8; lent = text ++ drop 8 out }
+unfolding showing
 set-then-shown p text out e room =
     let a = name-taken p text e in
-    let lp = right-length p 134 (a .0) in
-    let lt = right-length text 8 (a .1 .0) in
-    let inside = a .1 .1 .0 in
+    let lp = row-equal 7 (length p) 134 (a .0) in
+    let lt = row-equal 7 (length text) 8 (a .1 .0) in
+    let inside = row-silent 8 (anyOutside text) (a .1 .1 .0) in
+    let f = fields-pass p (a .1 .1 .1) in
     let q = map stored text ++ drop 8 p in
-    let ok = named-accepted p text lp lt inside (a .1 .1 .1 .0) (a .1 .1 .1 .1 .0) in
+    let ok = named-accepted p text lp lt inside (f .0) (f .1) in
     let lq : length q ≡ 134 = simp (length-append, length-map, length-drop) (omega arith) in
-    let zero = passed-zero (patchRows q) (is-right q 134 lq, (ok .0, (ok .1, tt))) in
-    rw (naming-done p text a, showing-room q out zero, set-shown p text lt inside) (simp (le-ltb (length out) 8 room))
+    let name = set-shown p text lt inside in
+    let fits : length (map shown (take 8 q)) ≤ length out = rw name (omega arith) in
+    rw (naming-done p text a) (written-fits (patchRows q) (map shown (take 8 q)) out (patch-silent q lq (ok .0) (ok .1)) fits ∙ rw (name, lt))
 
 -- A name that is shown and set again changes nothing.
 pub shown-then-set : (p out : List ℕ) → showing p out .result .answer ≡ 0
@@ -215,15 +203,11 @@ pub shown-then-set : (p out : List ℕ) → showing p out .result .answer ≡ 0
 unfolding showing
 shown-then-set p out e =
     let bytes = map shown (take 8 p) in
-    let rows = patchRows p ++ (row 13 (ltb (length out) (length bytes)) ∷ []) in
-    let new = bytes ++ drop (length bytes) out in
-    let a =
-    all-pass rows (λ z. omega arith, (λ z. omega arith, (λ z. omega arith, (λ z. omega arith, tt))))
-    (changed-zero rows (length bytes) new out e) in
-    let lp = right-length p 134 (a .0) in
-    let in-range = a .1 .0 in
+    let a = written-done (patchRows p) bytes out (patch-refusals p) e in
+    let lp = patch-length p (a .0) in
+    let f = fields-pass p (a .0 .1) in
     let eight = length-shown p lp in
-    let shows = ap (λ (v : Verdict). changed (length bytes) new out v .lent) (passed-over rows [] (done 0 [] []) a) in
-    let pass : All Passes (nameRows p bytes) =
-    (is-right p 134 lp, (is-right bytes 8 eight, (shown-inside p lp in-range, (in-range, (a .1 .1 .0, tt))))) in
-    rw (shows, take-at bytes (drop (length bytes) out) 8 eight, naming-done p bytes pass, shown-set p lp in-range)
+    let shows = ap (λ (x : Effect). x .lent) (written-fits (patchRows p) bytes out (a .0) (a .1)) in
+    let silent : Silent (nameRows p bytes) =
+    (rw (eq-eqb (length p) 134 lp), (rw (eq-eqb (length bytes) 8 eight), (rw (shown-inside p lp (f .0)), a .0 .1))) in
+    rw (shows, take-at bytes (drop (length bytes) out) 8 eight, naming-done p bytes silent, shown-set p lp (f .0))

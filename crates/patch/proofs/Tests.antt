@@ -1,20 +1,20 @@
--- The tests of a patch as rows of a table of answers: what the searches found, and what an answer of 0 tells.
-use mathlib.Core.Path.{_≡_, refl, ap, _∙_}
-use mathlib.Core.Bool.{false, not}
+-- The tests of a patch as rows of a table of answers: what the searches found, and what rows that say nothing tell of the patch.
+use mathlib.Core.Path.{_≡_, refl, ap, sym, _∙_}
 use mathlib.Core.List.{List, [], _∷_}
 use mathlib.Core.Option.{Option, none, some}
 use Prim.Native.Nat.{ℕ}
 use native.Mathlib.Omega.{arith}
-use lib.Dec.{eqb}
 use lib.ListN.{length}
-use borrow.Author.Tests.{eqb-true, not-false}
+use borrow.Author.Tests.{eq-eqb}
 use Rattle.answers.specs.Table.{rowAt}
 use Rattle.answers.specs.Effect.{tested}
+use Rattle.answers.proofs.Rows.{Silent, Refusals, row-at-silent, row-equal}
 use Rattle.patch.specs.declared.checks.Failed.the-variants.{At as failed-at, Nowhere}
-use Rattle.patch.specs.Columns.{foundAt}
+use Rattle.patch.specs.declared.fields.BytePlace.{BytePlace}
+use Rattle.patch.specs.declared.fields.FoundPlace.{FoundPlace}
+use Rattle.patch.specs.declared.fields.FoundPlace.the-variants.{At, Nothing as no-place}
+use Rattle.patch.specs.Columns.{foundAt, foundPlace}
 use Rattle.patch.specs.Patch.{firstOut, firstHalf, fieldRows, patchRows}
-use Rattle.answers.specs.Lists.{All}
-use Rattle.patch.proofs.Answers.{Passes, all-pass}
 
 -- A search that found a place, or a bus, found the definition's.
 pub found-some : (o : Option ℕ) (k : ℕ) → failed-at k ≡ foundAt o → o ≡ some k
@@ -26,6 +26,23 @@ pub found-none : (o : Option ℕ) → Nowhere ≡ foundAt o → o ≡ none
 found-none (some j) e = let z : _≡_ {A = ℕ} 0 1 = cc in absurd (omega arith)
 found-none none e = refl
 
+-- The place that a lookup found.
+abbrev placed : FoundPlace → Option ℕ
+placed (At r) = some (r .0)
+placed no-place = none
+
+placed-back : (o : Option ℕ) → placed (foundPlace o) ≡ o
+placed-back none = refl
+placed-back (some k) = refl
+
+-- A lookup that found a place found the definition's.
+pub found-there : (o : Option ℕ) (f : FoundPlace) (r : BytePlace) → f ≡ At r → f ≡ foundPlace o → o ≡ some (r .0)
+found-there o f r e q = sym (placed-back o) ∙ sym (ap placed q) ∙ ap placed e
+
+-- One that found none: nor does the definition.
+pub found-nowhere : (o : Option ℕ) (f : FoundPlace) → f ≡ no-place → f ≡ foundPlace o → o ≡ none
+found-nowhere o f e q = sym (placed-back o) ∙ sym (ap placed q) ∙ ap placed e
+
 -- What a patch's fields are answered, by what the two searches found.
 pub fields-answer : (p : List ℕ) (out half : Option ℕ) → firstOut p ≡ out → firstHalf p ≡ half
     → tested (fieldRows p) ≡ tested (rowAt 11 out ∷ rowAt 12 half ∷ [])
@@ -33,14 +50,24 @@ fields-answer p out half e f =
     ap (λ (o : Option ℕ). tested (rowAt 11 o ∷ rowAt 12 (firstHalf p) ∷ [])) e
     ∙ ap (λ (h : Option ℕ). tested (rowAt 11 out ∷ rowAt 12 h ∷ [])) f
 
--- The fields of a patch that is answered 0 pass both tests.
-pub fields-passed : (p : List ℕ) → tested (fieldRows p) .answer ≡ 0 → All Passes (fieldRows p)
-fields-passed p e = all-pass (fieldRows p) (λ z. omega arith, (λ z. omega arith, tt)) e
+module _ (p : List ℕ) where
+  -- The rows of a patch's fields, and of a lent patch, are refusals.
+  pub field-refusals : Refusals (fieldRows p)
+  field-refusals = omega arith
 
--- A patch that is answered 0 passes all three.
-pub patch-passed : (p : List ℕ) → tested (patchRows p) .answer ≡ 0 → All Passes (patchRows p)
-patch-passed p e = all-pass (patchRows p) (λ z. omega arith, (λ z. omega arith, (λ z. omega arith, tt))) e
+  pub patch-refusals : Refusals (patchRows p)
+  patch-refusals = omega arith
 
--- A length that is not found wrong is right.
-pub right-length : (p : List ℕ) (n : ℕ) → not (eqb (length p) n) ≡ false → length p ≡ n
-right-length p n e = eqb-true (length p) n (not-false (eqb (length p) n) e)
+  -- Where those of the fields say nothing, each byte is in range and no bus half used; and the other way round.
+  pub fields-pass : Silent (fieldRows p) → (firstOut p ≡ none) × (firstHalf p ≡ none)
+  fields-pass a = (row-at-silent 11 (firstOut p) (a .0), row-at-silent 12 (firstHalf p) (a .1 .0))
+
+  pub fields-silent : firstOut p ≡ none → firstHalf p ≡ none → Silent (fieldRows p)
+  fields-silent e f = (rw e, (rw f, tt))
+
+  -- Where those of a lent patch say nothing, it has 134 bytes besides; and the other way round.
+  pub patch-length : Silent (patchRows p) → length p ≡ 134
+  patch-length a = row-equal 7 (length p) 134 (a .0)
+
+  pub patch-silent : length p ≡ 134 → firstOut p ≡ none → firstHalf p ≡ none → Silent (patchRows p)
+  patch-silent l e f = (rw (eq-eqb (length p) 134 l), fields-silent e f)

@@ -1,8 +1,7 @@
 -- A record read into a lent buffer: by the answer that its message is given, and by the room there is.
 use mathlib.Core.Path.{_≡_, refl, sym, ap, _∙_}
-use mathlib.Core.List.{List, [], _∷_, _++_}
-use mathlib.Core.Option.{none}
-use Prim.Native.Nat.{ℕ, zero, suc, _+_, _*_, _/_, _%_, _≤_, _<_}
+use mathlib.Core.List.{List, _++_}
+use Prim.Native.Nat.{ℕ, zero, suc, _+_, _*_, _/_, _≤_, _<_}
 use native.Mathlib.Omega.{arith}
 use lib.ListN.{length, take, drop, length-drop}
 use lib.Seq.{length-take-le}
@@ -12,7 +11,7 @@ use Rattle.answers.specs.Effect.{Gives}
 use Rattle.answers.specs.declared.Outcome.{Outcome}
 use Rattle.frames.specs.Bytes.{framed}
 use Rattle.frames.specs.Stream.{readInto}
-use Rattle.nibbles.specs.Nibbles.{pack, firstWide, packing}
+use Rattle.nibbles.specs.Nibbles.{pack, packing}
 use Rattle.nibbles.proofs.Laws.{length-pack, packing-done}
 use Rattle.messages.specs.Judge.{judge}
 use Rattle.messages.specs.Judged.{judged}

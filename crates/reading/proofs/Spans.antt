@@ -4,13 +4,14 @@ use mathlib.Core.List.{List, [], _∷_}
 use Prim.Native.Nat.{ℕ, suc, _+_, _≤_, _<_}
 use native.Mathlib.Omega.{arith}
 use lib.ListN.{length, take, drop, length-drop}
+use lib.Seq.{length-take-le}
 use Rattle.answers.specs.Table.{Verdict, done, refused, answerOf, detailOf}
 use Rattle.frames.specs.Bytes.{body, withoutRealTime, realTimeIn, framed}
 use Rattle.frames.specs.Extent.{spanOf, endingOf}
 use Rattle.frames.specs.Stream.{messageAt, readInto}
 use Rattle.frames.specs.declared.Span.{Span}
-use Rattle.frames.proofs.Bytes.{body-within}
-use Rattle.frames.proofs.Extent.{body-take, message-refused, message-complete}
+use Rattle.frames.proofs.Bytes.{body-within, body-take}
+use Rattle.frames.proofs.Found.{message-refused, message-complete}
 use Rattle.messages.specs.Judge.{judge}
 use Rattle.messages.specs.Judged.{judged}
 use Rattle.messages.specs.declared.judged.Judged.{Judged}
@@ -42,6 +43,9 @@ module _ (t : List ℕ) (s : Span) (e : s ≡ spanOf t) where
 
   pub span-within : s .length ≤ length t
   span-within = omega (arith, span-length, body-within t)
+
+  pub span-taken : s .length ≡ length (take (s .length) t)
+  span-taken = sym (length-take-le (s .length) t span-within)
 
   -- The bytes that the span counts are the body, and the real time counted is theirs.
   pub span-body : take (s .length) t ≡ body t

@@ -5,22 +5,21 @@ use mathlib.Core.Bool.{Bool, true, false}
 use mathlib.Core.List.{List, [], _∷_, _++_}
 use mathlib.Core.Logic.{_↔_}
 use mathlib.Core.Option.{none, some}
-use Prim.Native.Nat.{ℕ, suc, _+_, _<_}
+use Prim.Native.Nat.{ℕ, suc, _+_}
 use native.Mathlib.Omega.{arith}
 use lib.Dec.{eqb, leb, ltb}
 use lib.ListN.{length, drop}
 use borrow.Author.Tests.{eqb-true, leb-true, leb-false, le-ltb, lt-ltb}
-use Rattle.answers.specs.Lists.{All}
 use Rattle.answers.specs.Table.{Row, row, rowAt, Verdict, done, refused, first, answerOf, detailOf}
 use Rattle.answers.specs.Effect.{outcome}
 use Rattle.answers.specs.declared.Outcome.{Outcome}
 use Rattle.answers.proofs.Lists.{all-append}
-use Rattle.answers.proofs.Rows.{Silent, FirstSays, first-append, first-passed, refused-exactly}
+use Rattle.answers.proofs.Rows.{Silent, FirstSays, Refusals, first-append, first-passed, refused-exactly, zero-silent}
 use Rattle.frames.specs.Bytes.{body}
 use Rattle.frames.specs.Stream.{readInto, readReport, messageAt, firstFrom, walk, read}
-use Rattle.messages.specs.Kinds.{Kind, singlePatch, masterParameters, remoteEdit, busEdit, editBuffer, unknown, kindOf}
-use Rattle.messages.specs.Judge.{byteAt, recordOf, messageRows, judge}
-use Rattle.messages.proofs.Numbers.{numberOf, row-positive, zero-silent}
+use Rattle.messages.specs.Kinds.{kindOf}
+use Rattle.messages.specs.Judge.{byteAt, messageRows, judge}
+use Rattle.messages.proofs.Numbers.{IsDone, made, record-done, message-refusals}
 use Rattle.theorems.specs.Answers.{fromStart, packedIn, outcomeOf, answered, found, message, recordIn, answerRows}
 
 -- The walk finds the message at the first F0H.
@@ -56,17 +55,6 @@ reading-rows (row k false ∷ rows) f e o b p lent = reading-rows rows f e o b p
 reading-rows (rowAt k (some d) ∷ rows) f e o b p lent = refl
 reading-rows (rowAt k none ∷ rows) f e o b p lent = reading-rows rows f e o b p lent
 
-data IsDone (v : Verdict) : Type 0 where
-  made : (o : ℕ) (b p : List ℕ) → v ≡ done o b p → IsDone v
-
-record-made : (k : Kind) (m : List ℕ) → IsDone (recordOf k m)
-record-made singlePatch m = made _ _ _ refl
-record-made masterParameters m = made _ _ _ refl
-record-made remoteEdit m = made _ _ _ refl
-record-made busEdit m = made _ _ _ refl
-record-made editBuffer m = made _ _ _ refl
-record-made unknown m = made _ _ _ refl
-
 -- A complete message m, read into a lent buffer.
 reading-judged : (f e : ℕ) (m lent : List ℕ) (v : Verdict) → IsDone v
     → answered (readInto f e (first (messageRows m) v) lent) ≡ outcomeOf (first (messageRows m ++ (row 13 (ltb (length lent) (length (packedIn v))) ∷ [])) v)
@@ -74,7 +62,7 @@ reading-judged f e m lent v (made o b p q) =
     rw (q, first-append (messageRows m) (row 13 (ltb (length lent) (length p)) ∷ []) (done o b p)) (reading-rows (messageRows m) f e o b p lent)
 
 record-here : (l : List ℕ) → IsDone (recordIn l)
-record-here l = record-made (kindOf (byteAt (message l) 3)) (message l)
+record-here l = record-done (kindOf (byteAt (message l) 3)) (message l)
 
 -- The message at an F0H before the bytes t, read into a lent buffer.
 abbrev ReadsBy : ℕ → ℕ → List ℕ → List ℕ → Type 0
@@ -132,16 +120,16 @@ module _ (s : List ℕ) (place : ℕ) (lent : List ℕ) where
       let x = refuses table itsRecord (record-here (found s place)) n d in
       ((λ e. x .0 (refused-by (first table itsRecord) n d h (sym read-table ∙ e))), (λ f. read-table ∙ ap outcomeOf (x .1 f)))
 
-  rows-positive : All (λ r. 0 < numberOf r) table
-  rows-positive =
+  table-refusals : Refusals table
+  table-refusals =
       let m = message (found s place) in
-      (omega arith, (omega arith, (omega arith, all-append _ (messageRows m) _ (row-positive m) (omega arith, tt))))
+      (omega arith, (omega arith, (omega arith, all-append _ (messageRows m) _ (message-refusals m) (omega arith))))
 
   -- The answer is 0 exactly when no row says anything.
   pub read-done : (read judge s place lent .answer ≡ 0) ↔ Silent table
   read-done =
       let answer = ap (λ (o : Outcome). o .answer) read-table in (
-        (λ e. zero-silent table itsRecord rows-positive (sym answer ∙ e)),
+        (λ e. zero-silent table itsRecord table-refusals (sym answer ∙ e)),
         (λ a. answer ∙ ap answerOf (first-passed table itsRecord a) ∙ made-zero itsRecord (record-here (found s place))),
       )
 

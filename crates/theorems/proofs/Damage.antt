@@ -12,9 +12,9 @@ use borrow.Author.Tests.{le-ltb}
 use Rattle.answers.specs.Lists.{All}
 use Rattle.answers.specs.Table.{done, answerOf}
 use Rattle.answers.specs.Effect.{outcome, tested}
-use Rattle.answers.specs.declared.Outcome.{Outcome}
 use Rattle.answers.proofs.Lists.{all-append, all-left, all-right, all-weaken}
 use Rattle.answers.proofs.Rows.{Silent}
+use Rattle.answers.proofs.Effects.{passed}
 use Rattle.frames.specs.Bytes.{dataByte, framed}
 use Rattle.frames.specs.Stream.{report}
 use Rattle.frames.proofs.Bytes.{kind-is, not-real-time}
@@ -23,10 +23,11 @@ use Rattle.frames.proofs.OneByte.{Only, closed, one-byte, scan-close}
 use Rattle.nibbles.specs.Nibbles.{nibbles, sum}
 use Rattle.nibbles.proofs.Laws.{length-nibbles, nibbles-narrow, sum-below}
 use Rattle.patch.specs.Patch.{firstOut, firstHalf, patchRows}
+use Rattle.patch.proofs.Tests.{patch-refusals, fields-pass, fields-silent, patch-length}
 use Rattle.patch.proofs.Rules.{fields-bytes}
 use Rattle.messages.specs.Judge.{judge}
 use Rattle.messages.specs.Layout.{dump}
-use Rattle.messages.proofs.Numbers.{never-13, zero-silent, tested-answer, row-finds-none, row-equal}
+use Rattle.messages.proofs.Numbers.{never-13}
 use Rattle.messages.proofs.DumpLaws.{DumpKind, ofPatch, ofBuffer, ofMaster, opcodeOf, misnumbered, packedRows, bytesOf, wrong-length, dump-accepted}
 use Rattle.messages.proofs.Replaced.{IsPatch, patch-size, replaced, suffix-refused}
 use Rattle.theorems.specs.Damage.{numbered, editBuffer, Damage, replace, lose, add, damaged, Allowed, Contained, Demand3}
@@ -155,8 +156,8 @@ module _ (k : DumpKind) (patch : IsPatch k) (n : ℕ) (number : misnumbered k n 
   accepted = dump-accepted k n p number (l ∙ sym (patch-size k patch)) (fields-bytes p l out) (tests k patch)
     where
       tests : (k : DumpKind) → IsPatch k → Silent (packedRows k p)
-      tests ofPatch i = (rw out, (rw half, tt))
-      tests ofBuffer i = (rw out, (rw half, tt))
+      tests ofPatch i = fields-silent p out half
+      tests ofBuffer i = fields-silent p out half
       tests ofMaster i = absurd i
 
   -- The undamaged dump has one report.
@@ -190,8 +191,9 @@ module _ (k : DumpKind) (patch : IsPatch k) (n : ℕ) (number : misnumbered k n 
 -- A patch that the writer takes has 134 bytes, in range, and no bus half used.
 patch-passed : (p : List ℕ) → tested (patchRows p) ≡ outcome 0 0 → (length p ≡ 134) × (firstOut p ≡ none) × (firstHalf p ≡ none)
 patch-passed p e =
-    let s = zero-silent (patchRows p) (done 0 [] []) (omega arith) (sym (tested-answer (patchRows p)) ∙ ap (λ (o : Outcome). o .answer) e) in
-    (row-equal 7 (length p) 134 (s .0), row-finds-none 11 (firstOut p) (s .1 .0), row-finds-none 12 (firstHalf p) (s .1 .1 .0))
+    let s = passed (patchRows p) (outcome 0 0) (patch-refusals p) (sym e) refl in
+    let f = fields-pass p (s .1) in
+    (patch-length p s, f .0, f .1)
 
 -- Demand 3, whole: one damaged byte of a patch dump, in any stream, costs that dump alone.
 pub demand-3 : Demand3

@@ -11,19 +11,19 @@ use borrow.Author.Tests.{ltb-false}
 use Rattle.answers.specs.Lists.{All}
 use Rattle.answers.specs.Table.{Row, row, Verdict}
 use Rattle.answers.specs.Effect.{Effect, written}
-use Rattle.answers.proofs.Rows.{Silent, Refusals, written-fits}
-use Rattle.answers.proofs.Passed.{written-done}
+use Rattle.answers.proofs.Rows.{Silent, Refusals, row-silent, row-equal, row-at-silent}
+use Rattle.answers.proofs.Effects.{written-done, written-fits}
 use Rattle.frames.specs.Bytes.{framed}
 use Rattle.patch.specs.Patch.{firstOut, fieldRows, patchRows}
 use Rattle.patch.proofs.Rules.{fields-bytes}
 use Rattle.edits.specs.Edits.{editRows, busRows}
 use Rattle.messages.specs.Judge.{judge}
 use Rattle.messages.specs.Layout.{dump, editMessage, busMessage}
-use Rattle.messages.proofs.Numbers.{row-fails, row-finds-none, row-equal}
 use Rattle.messages.proofs.DumpLaws.{ofPatch, ofBuffer, ofMaster, dump-accepted}
 use Rattle.messages.proofs.Written.{dumpContent, dump-data, editContent, edit-data, edit-accepted, busContent, bus-data, bus-accepted}
 use Rattle.writing.specs.Writing.{writingPatch, writingBuffer, writingMaster, writingEdit, writingBus}
-use Rattle.writing.proofs.Laws.{edit-refusals, bus-refusals, patch-refusals, field-refusals}
+use Rattle.edits.proofs.Tests.{edit-refusals, bus-refusals}
+use Rattle.patch.proofs.Tests.{patch-refusals, field-refusals}
 use Rattle.theorems.specs.RoundTrips.{Written, numbered, editBuffer, masterOf, edit, busEdit, writing, messageFor, recordFor, AllBytes, putting}
 
 -- The rows of each writer, before 13.
@@ -70,9 +70,9 @@ pub sound : (w : Written) → AllBytes w → Silent (rowsFor w) → Sound w
 unfolding dump editMessage busMessage
 sound (numbered n p) u a =
     let l = row-equal 7 (length p) 134 (a .0) in
-    let number = row-fails 8 (ltb 99 n) (a .1 .0) in
+    let number = row-silent 8 (ltb 99 n) (a .1 .0) in
     let small = ltb-false 99 n number in
-    let bytes = fields-bytes p l (row-finds-none 11 (firstOut p) (a .1 .1 .0)) in
+    let bytes = fields-bytes p l (row-at-silent 11 (firstOut p) (a .1 .1 .0)) in
     record {
       content = dumpContent 0x01 n p;
       bytes = refl;
@@ -81,7 +81,7 @@ sound (numbered n p) u a =
     }
 sound (editBuffer p) u a =
     let l = row-equal 7 (length p) 134 (a .0) in
-    let bytes = fields-bytes p l (row-finds-none 11 (firstOut p) (a .1 .0)) in
+    let bytes = fields-bytes p l (row-at-silent 11 (firstOut p) (a .1 .0)) in
     record {
       content = dumpContent 0x0D 0 p;
       bytes = refl;

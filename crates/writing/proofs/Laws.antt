@@ -1,7 +1,6 @@
 -- The lengths of the messages and of a bank, how a bank goes on from one patch to the next, and what a writer gives by its tests.
 -- Each law goes by the definition it names, or by the number of patches.
 use mathlib.Core.Path.{_≡_, refl, ap, sym, _∙_}
-use mathlib.Core.Bool.{not}
 use mathlib.Core.List.{List, [], _∷_, _++_, append-assoc, append-nil}
 use mathlib.Core.Option.{Option, none, some}
 use Prim.Native.Nat.{ℕ, zero, suc, _+_, _*_, _/_, _%_, _<_, _≤_}
@@ -9,17 +8,15 @@ use native.Mathlib.Omega.{arith}
 use native.Mathlib.Numerals.{add-one}
 use lib.ListN.{length, take, drop, set, length-append, length-drop}
 use lib.Seq.{length-take-le, drop-drop}
-use lib.Dec.{eqb, ltb}
-use borrow.Author.Tests.{lt-ltb, le-ltb, eq-eqb, eqb-true, not-false}
-use Rattle.answers.specs.Table.{Row, row, rowAt, done, first}
-use Rattle.answers.specs.Effect.{outcome, tested, written, Gives}
-use Rattle.answers.specs.declared.Outcome.{Outcome}
+use borrow.Author.Tests.{lt-ltb, le-ltb, eq-eqb}
+use Rattle.answers.specs.Table.{rowAt, done, first}
+use Rattle.answers.specs.Effect.{tested, written}
 use Rattle.answers.proofs.Lists.{put-next}
-use Rattle.answers.proofs.Rows.{Silent, Refusals, stopped, first-stopped, first-zero, answered-silent, written-fits, written-short, row-silent}
+use Rattle.answers.proofs.Rows.{first-stopped, first-zero}
 use Rattle.nibbles.specs.Nibbles.{nibbles, sum}
 use Rattle.nibbles.proofs.Laws.{length-nibbles}
-use Rattle.patch.specs.Patch.{firstOut, firstHalf, fieldRows, patchRows}
-use Rattle.edits.specs.Edits.{editRows, busRows}
+use Rattle.patch.specs.Patch.{firstOut, firstHalf, fieldRows}
+use Rattle.patch.proofs.Tests.{field-refusals}
 use Rattle.messages.specs.Layout.{dump, editMessage, busMessage}
 use Rattle.writing.specs.declared.BankOutcome.{BankOutcome}
 use Rattle.writing.specs.Writing.{writingPatch, writingMaster, writingBank, bankFrom, firstBad, Bad, bad, orLater, bankOutcome, bankTested, bankRoom, unlessBad, BankGives}
@@ -96,10 +93,6 @@ pub bank-more : (n k : ℕ) (ps : List ℕ) → bankFrom (n + 1) k ps ≡ bankFr
 unfolding bankFrom
 bank-more n k ps = bank-split n 1 k ps ∙ rw append-nil
 
--- The rows of a patch's fields are refusals.
-pub field-refusals : (p : List ℕ) → Refusals (fieldRows p)
-field-refusals p = ((λ e. omega arith), ((λ e. omega arith), tt))
-
 -- A bad patch is the lowest bad one of those from it on.
 pub bad-here : (n k : ℕ) (ps : List ℕ) → (tested (fieldRows (take 134 ps)) .answer ≡ 0 → ⊥)
     → firstBad (n + 1) k ps ≡ some (bad k (tested (fieldRows (take 134 ps)) .answer) (tested (fieldRows (take 134 ps)) .detail))
@@ -111,50 +104,10 @@ pub bad-next : (n k : ℕ) (ps : List ℕ) → tested (fieldRows (take 134 ps)) 
 unfolding firstBad
 bad-next n k ps h = rw (add-one n, add-one k, first-zero (fieldRows (take 134 ps)) (done 0 [] []) (field-refusals (take 134 ps)) h)
 
--- The rows of a remote edit are refusals.
-pub edit-refusals : (n v : ℕ) → Refusals (editRows n v)
-unfolding editRows
-edit-refusals n v = ((λ e. omega arith), ((λ e. omega arith), tt))
-
--- The rows of a matrix modulation edit are refusals.
-pub bus-refusals : (b s a d : ℕ) → Refusals (busRows b s a d)
-unfolding busRows
-bus-refusals b s a d = ((λ e. omega arith), ((λ e. omega arith), ((λ e. omega arith), ((λ e. omega arith), tt))))
-
--- The rows of a lent patch are refusals.
-pub patch-refusals : (p : List ℕ) → Refusals (patchRows p)
-patch-refusals p = ((λ e. omega arith), field-refusals p)
-
--- Rows that a test answered by 0 say nothing.
-pub passed : (rows : List Row) (t : Outcome) → Refusals rows → t ≡ tested rows → t .answer ≡ 0 → Silent rows
-passed rows t a e z = answered-silent rows a (sym (ap (λ (o : Outcome). o .answer) e) ∙ z)
-
--- Rows that refuse give their own answer, and every byte is kept.
-pub gives-stopped : (rows : List Row) (bytes out : List ℕ) (r : Outcome) → r ≡ tested rows → (r .answer ≡ 0 → ⊥)
-    → Gives (written rows bytes out) r out
-gives-stopped rows bytes out r e n =
-    let s = stopped rows (row 13 (ltb (length out) (length bytes)) ∷ []) (done 0 [] []) (λ z. n (ap (λ (o : Outcome). o .answer) e ∙ z)) in
-    rw s (record { result = e; lent = refl })
-
--- Rows that say nothing leave it to the room: 13 where there is too little, and every byte is kept.
-pub gives-short : (rows : List Row) (bytes out : List ℕ) (m : ℕ) (r : Outcome) → length bytes ≡ m → Silent rows → length out < m
-    → r ≡ outcome 13 0 → Gives (written rows bytes out) r out
-gives-short rows bytes out m r l a h e = rw (written-short rows bytes out a (omega arith)) (record { result = e; lent = refl })
-
--- Where there is room the bytes are written, and those behind them kept.
-pub gives-written : (rows : List Row) (bytes out after : List ℕ) (m : ℕ) (r : Outcome) → length bytes ≡ m → Silent rows → m ≤ length out
-    → r ≡ outcome 0 m → after ≡ bytes ++ drop (length bytes) out → Gives (written rows bytes out) r after
-gives-written rows bytes out after m r l a h e w =
-    rw (written-fits rows bytes out a (omega arith)) (record { result = e ∙ ap (outcome 0) (sym l); lent = w })
-
 -- A numbered patch of 134 bytes and a number of at most 99 are left to the fields and the room.
 pub patch-tested : (n : ℕ) (p out : List ℕ) → length p ≡ 134 → n ≤ 99 → writingPatch n p out ≡ written (fieldRows p) (dump 0x01 n p) out
 unfolding writingPatch
 patch-tested n p out e h = rw (eq-eqb (length p) 134 e, le-ltb 99 n h)
-
--- A patch whose rows say nothing has 134 bytes.
-pub silent-length : (p : List ℕ) → Silent (patchRows p) → length p ≡ 134
-silent-length p a = eqb-true (length p) 134 (not-false (eqb (length p) 134) (row-silent 7 (not (eqb (length p) 134)) (a .0)))
 
 -- A master of 172 bytes is left to the room.
 pub master-tested : (m out : List ℕ) → length m ≡ 172 → writingMaster m out ≡ written [] (dump 0x03 3 m) out

@@ -1,19 +1,21 @@
 -- The lookup, the value's tests, then the patch's: each refusal leaves the patch, and the last step stores one byte.
 use mathlib.Core.Path.{_≡_, refl, ap}
-use mathlib.Core.List.{List, []}
+use mathlib.Core.List.{List, [], _++_}
 use mathlib.Core.Option.{some}
 use Prim.Native.Nat.{ℕ, _<_}
 use native.Mathlib.Omega.{arith}
 use lib.ListN.{set}
 use borrow.Author.Needs.{needs}
 use Rattle.answers.specs.Table.{Row, done}
+use Rattle.answers.proofs.Lists.{all-append}
 use Rattle.answers.proofs.Rows.{Silent}
+use Rattle.answers.proofs.Effects.{passed, gives-kept, gives-kept-behind, gives-changed}
 use Rattle.patch.specs.Fields.{placeOf}
 use Rattle.patch.specs.Patch.{patchRows}
-use Rattle.patch.proofs.Answers.{refused-keeps, answered-zero}
+use Rattle.patch.proofs.Tests.{found-there, found-nowhere, patch-refusals, patch-length}
 use Rattle.patch.proofs.Rules.{found-place}
 use Rattle.edits.specs.Edits.{storedFor, valueRows}
-use Rattle.edits.proofs.Tests.{found-there, found-nowhere, applying-at, applying-nowhere, value-passed, value-small, patch-passed, patch-length, patch-refuses, patch-takes}
+use Rattle.edits.proofs.Tests.{applying-at, applying-nowhere, value-refusals, value-small}
 use Rattle.edits.proofs.apply_edit.Statement.{statement}
 use Rattle.edits.proofs.apply_edit.Tie as tie
 
@@ -44,17 +46,17 @@ there s =
 inside : (s : tie.After-struct-known) → place s < 134
 inside s = let q = found-place (number s) (place s) (there s) in omega arith
 
-passed : (e : tie.Else1) → Silent (rows (e .before .before .before))
-passed e =
+tested : (e : tie.Else1) → Silent (rows (e .before .before .before))
+tested e =
     let t = e .before .before in
     let s = t .before in
-    value-passed (place s) (number s) (value s) (answered-zero (rows s) (t .test-value .result) (t .test-value .ensures) (e .if1 .left))
+    passed (rows s) (t .test-value .result) (value-refusals (place s) (number s) (value s)) (t .test-value .ensures) (e .if1 .left)
 
 accepted : (e : tie.Else2) → Silent (patchRows (patch (e .before .before .before .before .before .before .before)))
 accepted e =
     let t = e .before .before in
     let p = patch (t .before .before .before .before .before) in
-    patch-passed p (answered-zero (patchRows p) (t .test .result) (t .test .ensures) (e .if2 .left))
+    passed (patchRows p) (t .test .result) (patch-refusals p) (t .test .ensures) (e .if2 .left)
 
 returns : tie.Need-returns
 returns c =
@@ -69,7 +71,7 @@ returns-2 c =
     let t = c .before .before in
     let s = t .before in
     rw (applying-at (number s) (value s) (place s) (patch s) (there s))
-    (refused-keeps (rows s) (patchRows (patch s)) (done 0 [] []) 0 (edited s) (patch s) (t .test-value .result) (t .test-value .ensures) (c .if1 .taken))
+    (gives-kept 0 (edited s) (patch s) (rows s) (patchRows (patch s)) (done 0 [] []) (t .test-value .result) (t .test-value .ensures) (c .if1 .taken))
 
 returns-3 : tie.Need-returns-3
 returns-3 c =
@@ -77,13 +79,13 @@ returns-3 c =
     let e = t .before .before in
     let s = e .before .before .before in
     rw (applying-at (number s) (value s) (place s) (patch s) (there s))
-    (patch-refuses (rows s) (patch s) (edited s) (t .test .result) (passed e) (t .test .ensures) (c .if2 .taken))
+    (gives-kept-behind 0 (edited s) (patch s) (rows s) (patchRows (patch s)) (done 0 [] []) (t .test .result) (tested e) (t .test .ensures) (c .if2 .taken))
 
 stored-for-requires : tie.Need-stored-for-requires
 stored-for-requires c κs =
     let e = c .before .before .before .before in
     let s = e .before .before .before in
-    value-small (place s) (number s) (value s) (passed e)
+    value-small (place s) (number s) (value s) (tested e)
 
 slice-write-p : tie.Need-slice-write-p
 slice-write-p c =
@@ -98,9 +100,10 @@ returns-4 c =
     let e = c .before .before in
     let one = e .before .before .before .before in
     let s = one .before .before .before in
+    let silent = all-append _ (rows s) (patchRows (patch s)) (tested one) (accepted e) in
     let byte = ap (λ (b : ℕ). set (patch s) (place s) b) (c .before .stored-for .ensures) in
     rw (applying-at (number s) (value s) (place s) (patch s) (there s))
-    (patch-takes (rows s) (patch s) (edited s) (c .done .result) (set (patch s) (place s) (c .before .stored-for .result)) (passed one) (accepted e) (c .done .ensures) byte)
+    (gives-changed 0 (edited s) (patch s) (rows s ++ patchRows (patch s)) (c .done .result) (set (patch s) (place s) (c .before .stored-for .result)) silent (c .done .ensures) byte)
 
 pub apply-edit-spec : {M : Type 1} → statement M
 apply-edit-spec =

@@ -8,8 +8,8 @@ use borrow.Author.Needs.{needs}
 use borrow.Author.Tests.{not-true, not-false}
 use Rattle.patch.specs.Fields.{inRange}
 use Rattle.patch.specs.Patch.{outFrom}
+use Rattle.patch.proofs.Accepted.{three}
 use Rattle.edits.specs.Edits.{byteRows}
-use Rattle.edits.proofs.Tests.{three}
 use Rattle.edits.proofs.test_bytes.Statement.{statement}
 use Rattle.edits.proofs.test_bytes.Tie as tie
 

@@ -7,8 +7,9 @@ use borrow.Author.Needs.{needs}
 use Rattle.answers.specs.Table.{Row}
 use Rattle.answers.specs.Effect.{tested}
 use Rattle.patch.specs.Fields.{placeOf}
+use Rattle.patch.proofs.Tests.{found-there, found-nowhere}
 use Rattle.patch.proofs.Rules.{found-place}
-use Rattle.edits.proofs.Tests.{found-there, found-nowhere, rows-at, rows-nowhere}
+use Rattle.edits.proofs.Tests.{rows-at, rows-nowhere}
 use Rattle.edits.proofs.test_edit.Statement.{statement}
 use Rattle.edits.proofs.test_edit.Tie as tie
 

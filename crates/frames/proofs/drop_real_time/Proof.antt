@@ -1,13 +1,13 @@
 -- `drop_real_time` keeps, at each turn, what is not real time among the bytes passed, as much of it as fits.
-use mathlib.Core.Path.{_≡_, refl, sym, ap, _∙_}
+use mathlib.Core.Path.{_≡_, refl, _∙_}
 use mathlib.Core.List.{List, [], _∷_, _++_}
 use Prim.Native.Nat.{ℕ, _<_, _≤_, _+_, _-_}
 use native.Mathlib.Omega.{arith}
-use lib.ListN.{length, drop, take, set, length-set, length-append, getD}
+use lib.ListN.{length, take, set, length-set, length-append, getD}
 use lib.Seq.{take-all, take-nil}
 use Rattle.frames.specs.Bytes.{withoutRealTime}
 use Rattle.frames.specs.Extent.{Kept}
-use Rattle.frames.proofs.Extent.{without-dropped, without-kept, kept-more, kept-full}
+use Rattle.frames.proofs.Kept.{without-dropped, without-kept, kept-more, kept-full}
 use Rattle.frames.proofs.drop_real_time.Statement.{statement}
 use Rattle.frames.proofs.drop_real_time.Tie as tie
 

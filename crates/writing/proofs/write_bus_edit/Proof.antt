@@ -7,10 +7,12 @@ use lib.ListN.{length, length-set}
 use borrow.Author.Needs.{needs}
 use Rattle.answers.specs.Table.{Row}
 use Rattle.answers.proofs.Rows.{Silent}
+use Rattle.answers.proofs.Effects.{passed, gives-stopped, gives-short, gives-written}
 use Rattle.edits.specs.Edits.{busRows}
+use Rattle.edits.proofs.Tests.{bus-refusals}
 use Rattle.messages.specs.Layout.{busMessage}
 use Rattle.writing.specs.Writing.{writingBus}
-use Rattle.writing.proofs.Laws.{puts-after, length-bus, bus-refusals, passed, gives-stopped, gives-short, gives-written}
+use Rattle.writing.proofs.Laws.{puts-after, length-bus}
 use Rattle.writing.proofs.write_bus_edit.Statement.{statement}
 use Rattle.writing.proofs.write_bus_edit.Tie as tie
 

@@ -6,10 +6,12 @@ use lib.ListN.{length}
 use borrow.Author.Needs.{needs}
 use Rattle.answers.specs.Table.{Row}
 use Rattle.answers.proofs.Rows.{Silent}
+use Rattle.answers.proofs.Effects.{passed, gives-stopped, gives-short, gives-written}
 use Rattle.edits.specs.Edits.{editRows}
+use Rattle.edits.proofs.Tests.{edit-refusals}
 use Rattle.messages.specs.Layout.{editMessage}
 use Rattle.writing.specs.Writing.{writingEdit}
-use Rattle.writing.proofs.Laws.{puts-after, length-edit, edit-refusals, passed, gives-stopped, gives-short, gives-written}
+use Rattle.writing.proofs.Laws.{puts-after, length-edit}
 use Rattle.writing.proofs.write_edit.Statement.{statement}
 use Rattle.writing.proofs.write_edit.Tie as tie
 

@@ -6,10 +6,12 @@ use native.Mathlib.Omega.{arith}
 use lib.ListN.{length}
 use borrow.Author.Needs.{needs}
 use Rattle.answers.proofs.Rows.{Silent}
+use Rattle.answers.proofs.Effects.{passed, gives-stopped, gives-short, gives-written}
 use Rattle.patch.specs.Patch.{patchRows}
+use Rattle.patch.proofs.Tests.{patch-refusals, patch-length}
 use Rattle.messages.specs.Layout.{dump}
 use Rattle.writing.specs.Writing.{writingBuffer}
-use Rattle.writing.proofs.Laws.{length-patch-dump, patch-refusals, passed, silent-length, gives-stopped, gives-short, gives-written}
+use Rattle.writing.proofs.Laws.{length-patch-dump}
 use Rattle.writing.proofs.write_edit_buffer.Statement.{statement}
 use Rattle.writing.proofs.write_edit_buffer.Tie as tie
 
@@ -27,7 +29,7 @@ silent t z = passed (patchRows (patch t)) (t .test .result) (patch-refusals (pat
 
 -- The patch has 134 bytes, so its dump has 275.
 whole : (t : tie.After-test) → t .test .result .answer ≡ 0 → length (patch t) ≡ 134
-whole t z = silent-length (patch t) (silent t z)
+whole t z = patch-length (patch t) (silent t z)
 
 size : (t : tie.After-test) → t .test .result .answer ≡ 0 → length (bytes t) ≡ 275
 size t z = length-patch-dump 0x0D 0 (patch t) (whole t z)

@@ -6,9 +6,10 @@ use native.Mathlib.Omega.{arith}
 use lib.ListN.{length}
 use borrow.Author.Needs.{needs}
 use borrow.Author.Tests.{ne-eqb}
+use Rattle.answers.proofs.Effects.{gives-short, gives-written}
 use Rattle.messages.specs.Layout.{dump}
 use Rattle.writing.specs.Writing.{writingMaster}
-use Rattle.writing.proofs.Laws.{length-dump, gives-short, gives-written, master-tested}
+use Rattle.writing.proofs.Laws.{length-dump, master-tested}
 use Rattle.writing.proofs.write_master.Statement.{statement}
 use Rattle.writing.proofs.write_master.Tie as tie
 

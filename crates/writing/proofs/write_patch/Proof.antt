@@ -7,10 +7,12 @@ use borrow.Author.Needs.{needs}
 use borrow.Author.Tests.{eq-eqb, ne-eqb, lt-ltb}
 use Rattle.answers.specs.Effect.{written}
 use Rattle.answers.proofs.Rows.{Silent}
+use Rattle.answers.proofs.Effects.{passed, gives-stopped, gives-short, gives-written}
 use Rattle.patch.specs.Patch.{fieldRows}
+use Rattle.patch.proofs.Tests.{field-refusals}
 use Rattle.messages.specs.Layout.{dump}
 use Rattle.writing.specs.Writing.{writingPatch}
-use Rattle.writing.proofs.Laws.{length-patch-dump, field-refusals, passed, gives-stopped, gives-short, gives-written, patch-tested}
+use Rattle.writing.proofs.Laws.{length-patch-dump, patch-tested}
 use Rattle.writing.proofs.write_patch.Statement.{statement}
 use Rattle.writing.proofs.write_patch.Tie as tie
 

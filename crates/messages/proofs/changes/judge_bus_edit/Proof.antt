@@ -1,12 +1,8 @@
 -- `judge_bus_edit` tests the length, then what writing and applying the edit test: each return is what the rows of the kind are answered.
 use mathlib.Core.Path.{_∙_}
-use native.Mathlib.Omega.{arith}
-use lib.ListN.{getD}
 use borrow.Author.Needs.{needs}
-use Rattle.edits.specs.Edits.{busRows}
 use Rattle.messages.specs.Kinds.{busEdit}
-use Rattle.messages.proofs.Content.{framed-byte}
-use Rattle.messages.proofs.Verdicts.{kind-length, kind-stopped, kind-done, bus-rows, bus-refusals}
+use Rattle.messages.proofs.Verdicts.{kind-length, kind-stopped, kind-done, bus}
 use Rattle.messages.proofs.changes.judge_bus_edit.Statement.{statement}
 use Rattle.messages.proofs.changes.judge_bus_edit.Tie as tie
 
@@ -18,17 +14,14 @@ returns-2 c =
     let at = c .before .before in
     let else1 = at .before .before .before .before .before in
     let m = else1 .before .before .args .content .now in
-    c .refused2 .ensures
-    ∙ kind-stopped busEdit m (busRows (getD m 3 0) (getD m 4 0) (getD m 5 0) (getD m 6 0)) (else1 .if1 .left) (bus-rows m (omega arith)) (at .test-bus-edit .result) (at .test-bus-edit .ensures) (c .before .if2 .taken)
+    c .refused2 .ensures ∙ kind-stopped (bus m) (else1 .if1 .left) (at .test-bus-edit .ensures) (c .before .if2 .taken)
 
 returns-3 : tie.Need-returns-3
 returns-3 c =
     let at = c .before .before in
     let else1 = at .before .before .before .before .before in
     let m = else1 .before .before .args .content .now in
-    c .accepted .ensures
-    ∙ (rw (framed-byte m 3 (omega arith), framed-byte m 4 (omega arith), framed-byte m 5 (omega arith), framed-byte m 6 (omega arith)) at
-    (kind-done busEdit m (busRows (getD m 3 0) (getD m 4 0) (getD m 5 0) (getD m 6 0)) (else1 .if1 .left) (bus-rows m (omega arith)) (at .test-bus-edit .result) (at .test-bus-edit .ensures) (bus-refusals (getD m 3 0) (getD m 4 0) (getD m 5 0) (getD m 6 0)) (c .before .if2 .left)))
+    rw (c .accepted .ensures) (kind-done (bus m) (else1 .if1 .left) (at .test-bus-edit .ensures) (c .before .if2 .left))
 
 pub judge-bus-edit-spec : {M : Type 1} → statement M
 judge-bus-edit-spec =

@@ -1,12 +1,8 @@
 -- `judge_edit` tests the length, then what writing and applying the edit test: each return is what the rows of the kind are answered.
 use mathlib.Core.Path.{_∙_}
-use native.Mathlib.Omega.{arith}
-use lib.ListN.{getD}
 use borrow.Author.Needs.{needs}
-use Rattle.edits.specs.Edits.{editRows}
 use Rattle.messages.specs.Kinds.{remoteEdit}
-use Rattle.messages.proofs.Content.{framed-byte}
-use Rattle.messages.proofs.Verdicts.{kind-length, kind-stopped, kind-done, edit-rows, edit-refusals}
+use Rattle.messages.proofs.Verdicts.{kind-length, kind-stopped, kind-done, edit}
 use Rattle.messages.proofs.changes.judge_edit.Statement.{statement}
 use Rattle.messages.proofs.changes.judge_edit.Tie as tie
 
@@ -18,17 +14,14 @@ returns-2 c =
     let at = c .before .before in
     let else1 = at .before .before .before in
     let m = else1 .before .before .args .content .now in
-    c .refused2 .ensures
-    ∙ kind-stopped remoteEdit m (editRows (getD m 3 0) (getD m 4 0)) (else1 .if1 .left) (edit-rows m (omega arith)) (at .test-edit .result) (at .test-edit .ensures) (c .before .if2 .taken)
+    c .refused2 .ensures ∙ kind-stopped (edit m) (else1 .if1 .left) (at .test-edit .ensures) (c .before .if2 .taken)
 
 returns-3 : tie.Need-returns-3
 returns-3 c =
     let at = c .before .before in
     let else1 = at .before .before .before in
     let m = else1 .before .before .args .content .now in
-    c .accepted .ensures
-    ∙ (rw (framed-byte m 3 (omega arith), framed-byte m 4 (omega arith)) at
-    (kind-done remoteEdit m (editRows (getD m 3 0) (getD m 4 0)) (else1 .if1 .left) (edit-rows m (omega arith)) (at .test-edit .result) (at .test-edit .ensures) (edit-refusals (getD m 3 0) (getD m 4 0)) (c .before .if2 .left)))
+    c .accepted .ensures ∙ kind-done (edit m) (else1 .if1 .left) (at .test-edit .ensures) (c .before .if2 .left)
 
 pub judge-edit-spec : {M : Type 1} → statement M
 judge-edit-spec =

@@ -1,6 +1,5 @@
 -- `check_numbered` tests the byte behind the opcode, then leaves the data and the fields to `check_patch`.
 use mathlib.Core.Path.{_∙_}
-use native.Mathlib.Omega.{arith}
 use lib.ListN.{getD}
 use borrow.Author.Needs.{needs}
 use borrow.Author.Tests.{lt-ltb, le-ltb}

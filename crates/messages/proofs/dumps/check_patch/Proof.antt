@@ -1,6 +1,5 @@
 -- `check_patch` tests the data and the sum, then the fields of the packed bytes.
 use mathlib.Core.Path.{_∙_}
-use native.Mathlib.Omega.{arith}
 use borrow.Author.Needs.{needs}
 use Rattle.messages.proofs.Data.{patch-stopped, patch-fields}
 use Rattle.messages.proofs.dumps.check_patch.Statement.{statement}

@@ -1,10 +1,8 @@
 -- `judge_buffer` tests the length, then what `check_numbered` tests: each return is what the rows of the kind are answered.
 use mathlib.Core.Path.{_∙_}
-use native.Mathlib.Omega.{arith}
 use borrow.Author.Needs.{needs}
-use Rattle.messages.specs.Judged.{numberedRows}
 use Rattle.messages.specs.Kinds.{editBuffer}
-use Rattle.messages.proofs.Verdicts.{kind-length, kind-stopped, kind-done, buffer-rows, numbered-refusals}
+use Rattle.messages.proofs.Verdicts.{kind-length, kind-stopped, kind-done, buffer}
 use Rattle.messages.proofs.dumps.judge_buffer.Statement.{statement}
 use Rattle.messages.proofs.dumps.judge_buffer.Tie as tie
 
@@ -15,17 +13,13 @@ returns-2 : tie.Need-returns-2
 returns-2 c =
     let at = c .before .before in
     let m = at .before .before .before .args .content .now in
-    let l = at .before .if1 .left in
-    c .refused2 .ensures
-    ∙ kind-stopped editBuffer m (numberedRows m 0) l (buffer-rows m (omega arith)) (at .check-numbered .result) (at .check-numbered .ensures) (c .before .if2 .taken)
+    c .refused2 .ensures ∙ kind-stopped (buffer m) (at .before .if1 .left) (at .check-numbered .ensures) (c .before .if2 .taken)
 
 returns-3 : tie.Need-returns-3
 returns-3 c =
     let at = c .before .before in
     let m = at .before .before .before .args .content .now in
-    let l = at .before .if1 .left in
-    c .accepted .ensures
-    ∙ kind-done editBuffer m (numberedRows m 0) l (buffer-rows m (omega arith)) (at .check-numbered .result) (at .check-numbered .ensures) (numbered-refusals m 0) (c .before .if2 .left)
+    c .accepted .ensures ∙ kind-done (buffer m) (at .before .if1 .left) (at .check-numbered .ensures) (c .before .if2 .left)
 
 pub judge-buffer-spec : {M : Type 1} → statement M
 judge-buffer-spec =

@@ -1,10 +1,8 @@
 -- `judge_master` tests the length, then what `check_master` tests: each return is what the rows of the kind are answered.
 use mathlib.Core.Path.{_∙_}
-use native.Mathlib.Omega.{arith}
 use borrow.Author.Needs.{needs}
-use Rattle.messages.specs.Judged.{masterRows}
 use Rattle.messages.specs.Kinds.{masterParameters}
-use Rattle.messages.proofs.Verdicts.{kind-length, kind-stopped, kind-done, master-rows, master-refusals}
+use Rattle.messages.proofs.Verdicts.{kind-length, kind-stopped, kind-done, master}
 use Rattle.messages.proofs.dumps.judge_master.Statement.{statement}
 use Rattle.messages.proofs.dumps.judge_master.Tie as tie
 
@@ -15,17 +13,13 @@ returns-2 : tie.Need-returns-2
 returns-2 c =
     let at = c .before .before in
     let m = at .before .before .before .args .content .now in
-    let l = at .before .if1 .left in
-    c .refused2 .ensures
-    ∙ kind-stopped masterParameters m (masterRows m) l (master-rows m (omega arith)) (at .check-master .result) (at .check-master .ensures) (c .before .if2 .taken)
+    c .refused2 .ensures ∙ kind-stopped (master m) (at .before .if1 .left) (at .check-master .ensures) (c .before .if2 .taken)
 
 returns-3 : tie.Need-returns-3
 returns-3 c =
     let at = c .before .before in
     let m = at .before .before .before .args .content .now in
-    let l = at .before .if1 .left in
-    c .accepted .ensures
-    ∙ kind-done masterParameters m (masterRows m) l (master-rows m (omega arith)) (at .check-master .result) (at .check-master .ensures) (master-refusals m) (c .before .if2 .left)
+    c .accepted .ensures ∙ kind-done (master m) (at .before .if1 .left) (at .check-master .ensures) (c .before .if2 .left)
 
 pub judge-master-spec : {M : Type 1} → statement M
 judge-master-spec =

@@ -1,11 +1,8 @@
 -- `judge_single` tests the length, then what `check_numbered` tests: each return is what the rows of the kind are answered.
 use mathlib.Core.Path.{_∙_}
-use native.Mathlib.Omega.{arith}
 use borrow.Author.Needs.{needs}
-use Rattle.messages.specs.Judged.{numberedRows}
-use Rattle.messages.proofs.Content.{framed-byte}
 use Rattle.messages.specs.Kinds.{singlePatch}
-use Rattle.messages.proofs.Verdicts.{kind-length, kind-stopped, kind-done, single-rows, numbered-refusals}
+use Rattle.messages.proofs.Verdicts.{kind-length, kind-stopped, kind-done, single}
 use Rattle.messages.proofs.dumps.judge_single.Statement.{statement}
 use Rattle.messages.proofs.dumps.judge_single.Tie as tie
 
@@ -16,17 +13,13 @@ returns-2 : tie.Need-returns-2
 returns-2 c =
     let at = c .before .before in
     let m = at .before .before .before .args .content .now in
-    let l = at .before .if1 .left in
-    c .refused2 .ensures
-    ∙ kind-stopped singlePatch m (numberedRows m 99) l (single-rows m (omega arith)) (at .check-numbered .result) (at .check-numbered .ensures) (c .before .if2 .taken)
+    c .refused2 .ensures ∙ kind-stopped (single m) (at .before .if1 .left) (at .check-numbered .ensures) (c .before .if2 .taken)
 
 returns-3 : tie.Need-returns-3
 returns-3 c =
     let at = c .before .before .before in
     let m = at .before .before .before .args .content .now in
-    let l = at .before .if1 .left in
-    c .accepted .ensures
-    ∙ (rw (framed-byte m 3 (omega arith)) at (kind-done singlePatch m (numberedRows m 99) l (single-rows m (omega arith)) (at .check-numbered .result) (at .check-numbered .ensures) (numbered-refusals m 99) (c .before .before .if2 .left)))
+    c .accepted .ensures ∙ kind-done (single m) (at .before .if1 .left) (at .check-numbered .ensures) (c .before .before .if2 .left)
 
 pub judge-single-spec : {M : Type 1} → statement M
 judge-single-spec =

@@ -7,10 +7,10 @@ use borrow.Author.Needs.{needs}
 use borrow.Author.Tests.{eq-eqb, ne-eqb}
 use Rattle.answers.specs.Table.{done, first}
 use Rattle.answers.specs.Effect.{changed}
+use Rattle.answers.proofs.Effects.{passed, gives-kept, gives-changed}
 use Rattle.patch.specs.Patch.{fieldRows}
 use Rattle.patch.specs.Names.{naming, stored}
-use Rattle.patch.proofs.Answers.{refused-keeps, gives-by, answered-zero, passed-over}
-use Rattle.patch.proofs.Tests.{fields-passed}
+use Rattle.patch.proofs.Tests.{field-refusals}
 use Rattle.patch.proofs.NameLaws.{naming-fields}
 use Rattle.patch.proofs.names.set_name.Statement.{statement}
 use Rattle.patch.proofs.names.set_name.Tie as tie
@@ -60,19 +60,17 @@ returns-4 c =
     let t = c .before .before in
     let fields = t .test-fields in
     rw (tests-passed t)
-    (refused-keeps (fieldRows (patch t)) [] (done 0 [] []) 0 (named t) (patch t) (fields .result) (fields .ensures) (c .if4 .taken))
+    (gives-kept 0 (named t) (patch t) (fieldRows (patch t)) [] (done 0 [] []) (fields .result) (fields .ensures) (c .if4 .taken))
 
 returns-5 : tie.Need-returns-5
 returns-5 c =
     let w = c .before .before .before in
-    let passed = w .before .before in
-    let t = passed .before .before in
+    let last = w .before .before in
+    let t = last .before .before in
     let rows = fieldRows (patch t) in
-    let zero = answered-zero rows (t .test-fields .result) (t .test-fields .ensures) (passed .if4 .left) in
-    let v = passed-over rows [] (done 0 [] []) (fields-passed (patch t) zero) in
+    let silent = passed rows (t .test-fields .result) (field-refusals (patch t)) (t .test-fields .ensures) (last .if4 .left) in
     let stored-now = rw (t .before .before .before .before .if2 .left) at (w .store .ensures) in
-    rw (tests-passed t)
-    (gives-by (first rows (done 0 [] [])) (done 0 [] []) 0 (named t) (patch t) (c .done .result) (w .store .last .1 .0) v (c .done .ensures) stored-now)
+    rw (tests-passed t) (gives-changed 0 (named t) (patch t) rows (c .done .result) (w .store .last .1 .0) silent (c .done .ensures) stored-now)
 
 pub set-name-spec : {M : Type 1} → statement M
 set-name-spec =

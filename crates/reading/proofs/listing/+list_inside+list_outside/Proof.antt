@@ -1,10 +1,10 @@
 -- The two states list the reports of the scan: each call hands on a shorter rest. From outside the scan goes on at the next F0H; from
 -- inside it gives the message, then goes on behind the byte that ended it. The room taken by a report is handed on with the rest.
-use mathlib.Core.Path.{_≡_, refl, sym, ap, _∙_}
-use mathlib.Core.List.{List, [], _∷_, _++_}
+use mathlib.Core.Path.{_≡_, ap, _∙_}
+use mathlib.Core.List.{List, [], _++_}
 use Prim.Native.Nat.{ℕ, suc, _+_, _-_, _<_, _≤_}
 use native.Mathlib.Omega.{arith}
-use lib.ListN.{length, take, drop, getD, length-drop}
+use lib.ListN.{length, take, drop, length-drop}
 use borrow.Author.Needs.{needs}
 use borrow.Fn.Kinds.{In}
 use borrow.Fn.PlainCycle.{Measures, is, falls, and}
@@ -12,11 +12,10 @@ use Rattle.answers.proofs.Lists.{to-end}
 use Rattle.frames.specs.Bytes.{body}
 use Rattle.frames.specs.Stream.{messageAt}
 use Rattle.frames.specs.Scan.{outside, inside, scan}
-use Rattle.frames.proofs.Extent.{ahead-within}
 use Rattle.frames.proofs.Handing.{outside-none, outside-found, inside-again, inside-left, inside-cut}
 use Rattle.messages.specs.Judge.{judge}
 use Rattle.reading.specs.Listed.{fourOf, Lists}
-use Rattle.reading.proofs.Spans.{span-length, span-within}
+use Rattle.reading.proofs.Spans.{span-length}
 use Rattle.reading.proofs.Rooms.{lists-full, lists-none, lists-one, lists-more, lists-fits, four-numbers}
 use Rattle.reading.proofs.listing.list_inside.Reads as list-inside
 use Rattle.reading.proofs.listing.list_inside.Kinds as list-inside-kinds
@@ -49,7 +48,9 @@ list-outside-at t = and 2 list-outside-kinds.ps (is 2 list-outside-kinds.ps μ-l
 abbrev list-outside-below : ℕ → In 2 list-outside-kinds.ps
 list-outside-below t = and 2 list-outside-kinds.ps (falls 2 list-outside-kinds.ps _<_ μ-list-outside t) list-outside.Pre
 
-list-inside-returns : (t : ℕ) → list-inside-lts.Need-returns (
+-- What the two call.
+abbrev calls : ℕ → list-inside-lts.Claims
+calls t = (
   find-end-reads.Asked,
   find-end-reads.Learnt,
   report-at-reads.Asked,
@@ -60,54 +61,26 @@ list-inside-returns : (t : ℕ) → list-inside-lts.Need-returns (
   list-inside.Post,
   list-outside-below t,
   list-outside.Post,
-) (list-inside-at t) list-inside.Post
+)
+
+abbrev outer-calls : ℕ → list-outside-lts.Claims
+outer-calls t = (find-start-reads.Asked, find-start-reads.Learnt, list-inside-below t, list-inside.Post)
+
+list-inside-returns : (t : ℕ) → list-inside-lts.Need-returns (calls t) (list-inside-at t) list-inside.Post
 list-inside-returns t c = lists-full _ (c .before .before .before .args .room .now) (c .if1 .taken)
 
-list-inside-report-at-requires : (t : ℕ) → list-inside-lts.Need-report-at-requires (
-  find-end-reads.Asked,
-  find-end-reads.Learnt,
-  report-at-reads.Asked,
-  report-at-reads.Learnt,
-  put-report-reads.Asked,
-  put-report-reads.Learnt,
-  list-inside-below t,
-  list-inside.Post,
-  list-outside-below t,
-  list-outside.Post,
-) (list-inside-at t) list-inside.Post
+list-inside-report-at-requires : (t : ℕ) → list-inside-lts.Need-report-at-requires (calls t) (list-inside-at t) list-inside.Post
 list-inside-report-at-requires t c κs = (c .before .before .before .before .pre .1, c .find-end .ensures)
 
 -- The report stands at the start of the room.
-first : (t : ℕ) (c : list-inside-lts.After-put-report (
-  find-end-reads.Asked,
-  find-end-reads.Learnt,
-  report-at-reads.Asked,
-  report-at-reads.Learnt,
-  put-report-reads.Asked,
-  put-report-reads.Learnt,
-  list-inside-below t,
-  list-inside.Post,
-  list-outside-below t,
-  list-outside.Post,
-) (list-inside-at t) list-inside.Post)
+first : (t : ℕ) (c : list-inside-lts.After-put-report (calls t) (list-inside-at t) list-inside.Post)
     → c .put-report .last .1 .0 ≡ fourOf (messageAt judge (c .before .before .before .before .before .before .before .args .start) (c .before .before .before .before .before .before .before .args .rest .now)) ++ drop 4 (c .before .before .before .before .before .before .before .args .room .now)
 first t c =
     let a = c .before .before .before .before .before .before .before .args in
     let four = four-numbers (messageAt judge (a .start) (a .rest .now)) (c .before .before .report-at .result) (c .before .before .report-at .ensures) in
     c .put-report .ensures ∙ ap (λ (l : List ℕ). l ++ drop 4 (a .room .now)) four
 
-list-inside-returns-2 : (t : ℕ) → list-inside-lts.Need-returns-2 (
-  find-end-reads.Asked,
-  find-end-reads.Learnt,
-  report-at-reads.Asked,
-  report-at-reads.Learnt,
-  put-report-reads.Asked,
-  put-report-reads.Learnt,
-  list-inside-below t,
-  list-inside.Post,
-  list-outside-below t,
-  list-outside.Post,
-) (list-inside-at t) list-inside.Post
+list-inside-returns-2 : (t : ℕ) → list-inside-lts.Need-returns-2 (calls t) (list-inside-at t) list-inside.Post
 list-inside-returns-2 t c =
     let puts = c .before .before .before in
     let a = puts .before .before .before .before .before .before .before .args in
@@ -115,52 +88,21 @@ list-inside-returns-2 t c =
     let cut : length (a .rest .now) ≤ length (body (a .rest .now)) = omega (arith, span-length (a .rest .now) (puts .before .before .before .find-end .result) (puts .before .before .before .find-end .ensures), c .if2 .taken) in
     rw (inside-cut judge (a .start) (a .rest .now) cut) (lists-one m (a .room .now) (puts .put-report .last .1 .0) (puts .before .before .before .before .if1 .left) (first t puts))
 
--- The byte behind the body is there.
-there : (t : ℕ) (c : list-inside-lts.Else2 (
-  find-end-reads.Asked,
-  find-end-reads.Learnt,
-  report-at-reads.Asked,
-  report-at-reads.Learnt,
-  put-report-reads.Asked,
-  put-report-reads.Learnt,
-  list-inside-below t,
-  list-inside.Post,
-  list-outside-below t,
-  list-outside.Post,
-) (list-inside-at t) list-inside.Post)
-    → length (body (c .before .before .before .before .before .before .before .before .before .before .args .rest .now)) < length (c .before .before .before .before .before .before .before .before .before .before .args .rest .now)
-there t c =
-    let s = c .before .before .before .before .before .before .before .before .before .before .args .rest .now in
-    omega (arith, span-length s (c .before .before .before .before .before .before .find-end .result) (c .before .before .before .before .before .before .find-end .ensures), c .if2 .left)
+-- A byte stands behind the body, at the span's index.
+abbrev Behind : ℕ → Type 0
+Behind t = list-inside-lts.Else2 (calls t) (list-inside-at t) list-inside.Post
 
--- Its index is the span's.
-index : (t : ℕ) (c : list-inside-lts.Else2 (
-  find-end-reads.Asked,
-  find-end-reads.Learnt,
-  report-at-reads.Asked,
-  report-at-reads.Learnt,
-  put-report-reads.Asked,
-  put-report-reads.Learnt,
-  list-inside-below t,
-  list-inside.Post,
-  list-outside-below t,
-  list-outside.Post,
-) (list-inside-at t) list-inside.Post)
+index : (t : ℕ) (c : Behind t)
     → c .before .before .before .before .before .before .find-end .result .length ≡ length (body (c .before .before .before .before .before .before .before .before .before .before .args .rest .now))
-index t c = span-length (c .before .before .before .before .before .before .before .before .before .before .args .rest .now) (c .before .before .before .before .before .before .find-end .result) (c .before .before .before .before .before .before .find-end .ensures)
+index t c =
+    let found = c .before .before .before .before .before .before in
+    span-length (found .before .before .before .before .args .rest .now) (found .find-end .result) (found .find-end .ensures)
 
-list-inside-returns-3 : (t : ℕ) → list-inside-lts.Need-returns-3 (
-  find-end-reads.Asked,
-  find-end-reads.Learnt,
-  report-at-reads.Asked,
-  report-at-reads.Learnt,
-  put-report-reads.Asked,
-  put-report-reads.Learnt,
-  list-inside-below t,
-  list-inside.Post,
-  list-outside-below t,
-  list-outside.Post,
-) (list-inside-at t) list-inside.Post
+there : (t : ℕ) (c : Behind t)
+    → length (body (c .before .before .before .before .before .before .before .before .before .before .args .rest .now)) < length (c .before .before .before .before .before .before .before .before .before .before .args .rest .now)
+there t c = omega (arith, index t c, c .if2 .left)
+
+list-inside-returns-3 : (t : ℕ) → list-inside-lts.Need-returns-3 (calls t) (list-inside-at t) list-inside.Post
 list-inside-returns-3 t c =
     let call = c .before .before in
     let branch = call .before .before .before in
@@ -179,18 +121,7 @@ list-inside-returns-3 t c =
     (lists-more (messageAt judge f s) (scan judge (suc (suc f + n)) (inside (suc f + n) []) (drop (n + 1) s)) (a .room .now) xs (puts .before .before .before .before .if1 .left) (first t puts)
     (call .list-inside .last .1 .1 .0) (call .list-inside .result) inner)
 
-list-inside-returns-4 : (t : ℕ) → list-inside-lts.Need-returns-4 (
-  find-end-reads.Asked,
-  find-end-reads.Learnt,
-  report-at-reads.Asked,
-  report-at-reads.Learnt,
-  put-report-reads.Asked,
-  put-report-reads.Learnt,
-  list-inside-below t,
-  list-inside.Post,
-  list-outside-below t,
-  list-outside.Post,
-) (list-inside-at t) list-inside.Post
+list-inside-returns-4 : (t : ℕ) → list-inside-lts.Need-returns-4 (calls t) (list-inside-at t) list-inside.Post
 list-inside-returns-4 t c =
     let call = c .before .before in
     let branch = call .before .before .before in
@@ -209,52 +140,30 @@ list-inside-returns-4 t c =
     (lists-more (messageAt judge f s) (scan judge (suc (suc f + n)) outside (drop (n + 1) s)) (a .room .now) xs (puts .before .before .before .before .if1 .left) (first t puts)
     (call .list-outside .last .1 .1 .0) (call .list-outside .result) inner)
 
-list-inside-add-result : (t : ℕ) → list-inside-lts.Need-add-result (
-  find-end-reads.Asked,
-  find-end-reads.Learnt,
-  report-at-reads.Asked,
-  report-at-reads.Learnt,
-  put-report-reads.Asked,
-  put-report-reads.Learnt,
-  list-inside-below t,
-  list-inside.Post,
-  list-outside-below t,
-  list-outside.Post,
-) (list-inside-at t) list-inside.Post
+list-inside-add-result : (t : ℕ) → list-inside-lts.Need-add-result (calls t) (list-inside-at t) list-inside.Post
 list-inside-add-result t c =
     let call = c .before .before in
     let puts = call .before .before .before .before .before .before .before .before in
     let xs = puts .put-report .last .1 .0 in
     omega (arith, lists-fits (call .list-inside .ensures), ap length (to-end 4 xs), length-drop 4 xs, puts .put-report .kept .1 .0, puts .before .before .before .before .before .before .before .good)
 
-list-inside-add-result-2 : (t : ℕ) → list-inside-lts.Need-add-result-2 (
-  find-end-reads.Asked,
-  find-end-reads.Learnt,
-  report-at-reads.Asked,
-  report-at-reads.Learnt,
-  put-report-reads.Asked,
-  put-report-reads.Learnt,
-  list-inside-below t,
-  list-inside.Post,
-  list-outside-below t,
-  list-outside.Post,
-) (list-inside-at t) list-inside.Post
+list-inside-add-result-2 : (t : ℕ) → list-inside-lts.Need-add-result-2 (calls t) (list-inside-at t) list-inside.Post
 list-inside-add-result-2 t c =
     let call = c .before .before in
     let puts = call .before .before .before .before .before .before .before .before in
     let xs = puts .put-report .last .1 .0 in
     omega (arith, lists-fits (call .list-outside .ensures), ap length (to-end 4 xs), length-drop 4 xs, puts .put-report .kept .1 .0, puts .before .before .before .before .before .before .before .good)
 
-list-outside-returns : (t : ℕ) → list-outside-lts.Need-returns (find-start-reads.Asked, find-start-reads.Learnt, list-inside-below t, list-inside.Post) (list-outside-at t) list-outside.Post
+list-outside-returns : (t : ℕ) → list-outside-lts.Need-returns (outer-calls t) (list-outside-at t) list-outside.Post
 list-outside-returns t c = lists-full _ (c .before .before .before .args .room .now) (c .if1 .taken)
 
-list-outside-returns-2 : (t : ℕ) → list-outside-lts.Need-returns-2 (find-start-reads.Asked, find-start-reads.Learnt, list-inside-below t, list-inside.Post) (list-outside-at t) list-outside.Post
+list-outside-returns-2 : (t : ℕ) → list-outside-lts.Need-returns-2 (outer-calls t) (list-outside-at t) list-outside.Post
 list-outside-returns-2 t c =
     let found = c .before in
     let a = found .before .before .before .before .args in
     rw (outside-none judge (a .rest .now) (a .place) (rw (found .find-start .ensures) at (c .if2 .taken))) (lists-none (a .room .now))
 
-list-outside-returns-3 : (t : ℕ) → list-outside-lts.Need-returns-3 (find-start-reads.Asked, find-start-reads.Learnt, list-inside-below t, list-inside.Post) (list-outside-at t) list-outside.Post
+list-outside-returns-3 : (t : ℕ) → list-outside-lts.Need-returns-3 (outer-calls t) (list-outside-at t) list-outside.Post
 list-outside-returns-3 t c =
     let call = c .before .before in
     let found = call .before .before .before .before in
@@ -265,18 +174,7 @@ list-outside-returns-3 t c =
     rw (outside-found judge s (a .place) (rw e at (call .before .before .before .if2 .left))) (rw (to-end (i + 1) s, e) at (call .list-inside .ensures))
 
 pub +list-inside+list-outside-spec : {M : Type 1} → statement M
-+list-inside+list-outside-spec = close μ-list-inside μ-list-outside (λ t. list-inside-lts.spec (
-  find-end-reads.Asked,
-  find-end-reads.Learnt,
-  report-at-reads.Asked,
-  report-at-reads.Learnt,
-  put-report-reads.Asked,
-  put-report-reads.Learnt,
-  list-inside-below t,
-  list-inside.Post,
-  list-outside-below t,
-  list-outside.Post,
-)
++list-inside+list-outside-spec = close μ-list-inside μ-list-outside (λ t. list-inside-lts.spec (calls t)
     (list-inside-at t)
     list-inside.Post
     (list-inside-returns t)
@@ -312,7 +210,7 @@ pub +list-inside+list-outside-spec : {M : Type 1} → statement M
     (λ c. omega arith)
     (list-inside-returns-4 t))
     λ t. list-outside-lts.spec
-    (find-start-reads.Asked, find-start-reads.Learnt, list-inside-below t, list-inside.Post)
+    (outer-calls t)
     (list-outside-at t)
     list-outside.Post
     (list-outside-returns t)

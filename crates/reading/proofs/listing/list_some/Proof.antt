@@ -1,7 +1,6 @@
 -- `list_some` lends the first 256 numbers of a larger room, so that no more than 64 reports are made.
-use mathlib.Core.Path.{_≡_, sym}
+use mathlib.Core.Path.{sym}
 use native.Mathlib.Omega.{arith}
-use lib.ListN.{length, take, length-drop}
 use lib.Seq.{length-take-le}
 use borrow.Author.Needs.{needs}
 use Rattle.answers.proofs.Lists.{to-end}

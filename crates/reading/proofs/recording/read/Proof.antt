@@ -7,7 +7,7 @@ use lib.ListN.{length, length-drop}
 use borrow.Author.Needs.{needs}
 use Rattle.answers.proofs.Lists.{to-end}
 use Rattle.frames.specs.Stream.{read}
-use Rattle.frames.proofs.Extent.{walk-none, walk-found}
+use Rattle.frames.proofs.Found.{walk-none, walk-found}
 use Rattle.messages.specs.Judge.{judge}
 use Rattle.reading.proofs.recording.read.Statement.{statement}
 use Rattle.reading.proofs.recording.read.Tie as tie

@@ -1,9 +1,7 @@
 -- `read_at` gives the message by how it ends: cut or interrupted, or read from its body.
-use mathlib.Core.Path.{sym}
 use native.Mathlib.Omega.{arith}
-use lib.Seq.{length-take-le}
 use borrow.Author.Needs.{needs}
-use Rattle.reading.proofs.Spans.{span-within, span-quiet, span-closed, read-ended, read-complete}
+use Rattle.reading.proofs.Spans.{span-within, span-taken, span-quiet, span-closed, read-ended, read-complete}
 use Rattle.reading.proofs.recording.read_at.Statement.{statement}
 use Rattle.reading.proofs.recording.read_at.Tie as tie
 
@@ -18,7 +16,7 @@ returns c =
 slice-aggregate-read-body : tie.Need-slice-aggregate-read-body
 slice-aggregate-read-body c =
     let a = c .before .before .before .before in
-    sym (length-take-le (a .args .span .length) (a .args .rest .now) (span-within (a .args .rest .now) (a .args .span) (a .pre .1)))
+    span-taken (a .args .rest .now) (a .args .span) (a .pre .1)
 
 add-read-body : tie.Need-add-read-body
 add-read-body c =

@@ -1,13 +1,12 @@
 -- `read_body` reads the bytes as they stand, or what is left of them without real time: of a longer message the first 350.
-use mathlib.Core.Path.{_≡_, refl, sym, ap, _∙_}
+use mathlib.Core.Path.{refl, sym, _∙_}
 use Prim.Native.Nat.{_≤_}
 use native.Mathlib.Omega.{arith}
-use lib.ListN.{length, take}
+use lib.ListN.{length}
 use lib.Seq.{length-take-le}
 use borrow.Author.Needs.{needs}
-use Rattle.frames.specs.Bytes.{withoutRealTime}
-use Rattle.frames.proofs.Extent.{without-none, kept-whole, kept-front}
-use Rattle.messages.proofs.Long.{judge-long}
+use Rattle.frames.proofs.Kept.{without-none, kept-whole}
+use Rattle.messages.proofs.Long.{judge-front}
 use Rattle.reading.proofs.recording.read_body.Statement.{statement}
 use Rattle.reading.proofs.recording.read_body.Tie as tie
 
@@ -36,13 +35,7 @@ returns-3 : tie.Need-returns-3
 returns-3 c =
     let reads = c .before .before in
     let else2 = reads .before .before .before in
-    let at = else2 .before .before in
-    let start = at .before .before .before .before .before in
-    let w = withoutRealTime (start .args .body .now) in
-    let k = at .drop-real-time .ensures in
-    let long : 350 ≤ length w = omega (arith, k .count, else2 .if2 .left) in
-    let e = kept-front _ _ _ _ refl k (else2 .if2 .left) in
-    rw (e, judge-long w long) at (reads .read-content3 .ensures)
+    rw (judge-front refl (else2 .before .before .drop-real-time .ensures) (else2 .if2 .left)) at (reads .read-content3 .ensures)
 
 pub read-body-spec : {M : Type 1} → statement M
 read-body-spec =

@@ -1,15 +1,12 @@
 -- `judge_body` judges the bytes as they stand, or what is left of them without real time: of a longer message the first 350.
-use mathlib.Core.Path.{_≡_, refl, sym, ap, _∙_}
+use mathlib.Core.Path.{refl, sym, _∙_}
 use Prim.Native.Nat.{_≤_}
 use native.Mathlib.Omega.{arith}
-use lib.ListN.{length, take}
+use lib.ListN.{length}
 use lib.Seq.{length-take-le}
 use borrow.Author.Needs.{needs}
-use Rattle.frames.specs.Bytes.{framed, withoutRealTime}
-use Rattle.frames.proofs.Extent.{without-none, kept-whole, kept-front}
-use Rattle.messages.specs.Judge.{judge}
-use Rattle.messages.specs.Judged.{judged}
-use Rattle.messages.proofs.Long.{judge-long}
+use Rattle.frames.proofs.Kept.{without-none, kept-whole}
+use Rattle.messages.proofs.Long.{judge-front}
 use Rattle.reading.proofs.walking.judge_body.Statement.{statement}
 use Rattle.reading.proofs.walking.judge_body.Tie as tie
 
@@ -33,12 +30,7 @@ returns-2 c =
 returns-3 : tie.Need-returns-3
 returns-3 c =
     let at = c .before .before .before .before in
-    let start = at .before .before .before .before in
-    let w = withoutRealTime (start .args .body .now) in
-    let k = at .drop-real-time .ensures in
-    let long : 350 ≤ length w = omega (arith, k .count, c .before .before .if2 .left) in
-    let e = kept-front _ _ _ _ refl k (c .before .before .if2 .left) in
-    c .judge-content3 .ensures ∙ rw (e, judge-long w long)
+    c .judge-content3 .ensures ∙ rw (judge-front refl (at .drop-real-time .ensures) (c .before .before .if2 .left))
 
 pub judge-body-spec : {M : Type 1} → statement M
 judge-body-spec =

@@ -1,10 +1,7 @@
 -- `report_at` gives the message by how it ends: cut or interrupted, or judged.
-use mathlib.Core.Path.{sym}
 use native.Mathlib.Omega.{arith}
-use lib.ListN.{length, take}
-use lib.Seq.{length-take-le}
 use borrow.Author.Needs.{needs}
-use Rattle.reading.proofs.Spans.{span-within, span-quiet, span-closed, report-ended, report-judged}
+use Rattle.reading.proofs.Spans.{span-within, span-taken, span-quiet, span-closed, report-ended, report-judged}
 use Rattle.reading.proofs.walking.report_at.Statement.{statement}
 use Rattle.reading.proofs.walking.report_at.Tie as tie
 
@@ -19,7 +16,7 @@ returns c =
 slice-aggregate-judge-body : tie.Need-slice-aggregate-judge-body
 slice-aggregate-judge-body c =
     let a = c .before .before .before in
-    sym (length-take-le (a .args .span .length) (a .args .rest .now) (span-within (a .args .rest .now) (a .args .span) (a .pre .1)))
+    span-taken (a .args .rest .now) (a .args .span) (a .pre .1)
 
 judge-body-requires : tie.Need-judge-body-requires
 judge-body-requires c κs =

@@ -1,15 +1,13 @@
 -- `walk` finds the first F0H at the place or later, and gives the message there.
-use mathlib.Core.Path.{_≡_, sym, ap, _∙_}
-use Prim.Native.Nat.{suc, _+_}
+use mathlib.Core.Path.{ap, _∙_}
+use Prim.Native.Nat.{_+_}
 use native.Mathlib.Omega.{arith}
 use native.Mathlib.Numerals.{add-one}
-use lib.ListN.{length, drop, length-drop}
+use lib.ListN.{length, length-drop}
 use borrow.Author.Needs.{needs}
 use Rattle.answers.proofs.Lists.{to-end}
-use Rattle.frames.specs.Extent.{startFrom}
-use Rattle.frames.proofs.Extent.{walk-none, walk-found}
+use Rattle.frames.proofs.Found.{walk-none, walk-found}
 use Rattle.messages.specs.Judge.{judge}
-use Rattle.reading.specs.Walk.{walked}
 use Rattle.reading.proofs.walking.walk.Statement.{statement}
 use Rattle.reading.proofs.walking.walk.Tie as tie
 

@@ -1,18 +1,27 @@
 -- A patch stays accepted where a byte that its place accepts is stored and each bus stays whole: place by place, and bus by bus.
+-- And three bytes, those of a bus, are tested one after the other.
 use mathlib.Core.Path.{_≡_, refl}
 use mathlib.Core.Bool.{Bool, true, false, cond}
 use mathlib.Core.List.{List, [], _∷_}
 use mathlib.Core.Option.{none, some}
 use Prim.Native.Nat.{ℕ, zero, suc, _+_, _*_, _≤_, _<_}
 use native.Mathlib.Omega.{arith}
+use native.Mathlib.Numerals.{add-one}
 use lib.Dec.{eqb}
 use lib.ListN.{length, getD, set}
-use borrow.Author.Tests.{eq-eqb, eqb-true, eqb-false}
+use borrow.Author.Tests.{eqb-true, eqb-false}
 use Rattle.answers.specs.Effect.{tested, outcome}
 use Rattle.answers.proofs.Rows.{tested-passed}
 use Rattle.patch.specs.Fields.{inRange}
 use Rattle.patch.specs.Patch.{outFrom, firstOut, halfUsed, halfFrom, patchRows}
+use Rattle.patch.proofs.Tests.{patch-silent}
 use Rattle.patch.proofs.Rules.{one-in, one-more-in}
+
+-- The lowest place out of range among three bytes.
+pub three : (k s a d : ℕ) → outFrom k (s ∷ a ∷ d ∷ [])
+    ≡ cond (inRange k s) (cond (inRange (k + 1) a) (cond (inRange (k + 2) d) none (some (k + 2))) (some (k + 1))) (some k)
+unfolding outFrom
+three k s a d = let two : k + 2 ≡ suc (suc k) = omega arith in rw (add-one k, two)
 
 -- A byte that is accepted at its place is stored: still no place is out of range.
 pub out-set : (j k b : ℕ) (p : List ℕ) → outFrom j p ≡ none → inRange (j + k) b ≡ true → outFrom j (set p k b) ≡ none
@@ -50,4 +59,4 @@ none-half (suc n) b p h = simp (h b (omega arith) (omega arith)) (none-half n (s
 pub patch-accepted : (q : List ℕ) → length q ≡ 134 → firstOut q ≡ none → ((c : ℕ) → c < 10 → Whole q c) → tested (patchRows q) ≡ outcome 0 0
 patch-accepted q l e h =
     let f = none-half 10 0 q (λ c z k. h c (omega arith)) in
-    tested-passed (patchRows q) (simp (eq-eqb _ _ l), (simp e, (simp f, tt)))
+    tested-passed (patchRows q) (patch-silent q l e f)
