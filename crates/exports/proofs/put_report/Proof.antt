@@ -1,0 +1,28 @@
+-- The numbers are stored one after the other from the start.
+use mathlib.Core.Path.{refl}
+use mathlib.Core.List.{[]}
+use native.Mathlib.Omega.{arith}
+use lib.ListN.{length-set}
+use borrow.Author.Needs.{needs}
+use Rattle.writing.proofs.Laws.{puts-after}
+use Rattle.exports.specs.Exported.{reportNumbers}
+use Rattle.exports.proofs.put_report.Statement.{statement}
+use Rattle.exports.proofs.put_report.Tie as tie
+
+returns : tie.Need-returns
+returns c =
+    let start = c .before in
+    let o = start .args .numbers .now in
+    record { answer = refl; numbers = puts-after [] (reportNumbers (start .args .r)) o o 0 refl (start .pre) refl }
+
+pub put-report-spec : {M : Type 1} → statement M
+put-report-spec =
+    tie.close
+    (tie.spec
+    (λ c. search needs)
+    (λ c. simp length-set (omega arith))
+    (λ c. search needs)
+    (λ c. simp length-set (omega arith))
+    (λ c. simp length-set (omega arith))
+    (λ c. simp length-set)
+    returns)
