@@ -61,7 +61,7 @@ extern "C" {
 #define MATRIX_BUS_EDIT_MESSAGE 9
 
 /* matrix_reports makes at most this many reports a call. */
-#define MATRIX_REPORTS 64
+#define MATRIX_REPORTS 8
 
 /* matrix_place_of and matrix_parameter_of where there is none. */
 #define MATRIX_NONE 255
@@ -85,7 +85,7 @@ uint8_t matrix_read(const uint8_t *s, size_t s_len, size_t place,
                     size_t *numbers, size_t numbers_len);
 
 /* Lists the messages of the input `s` that start at `place` or later, as walks would from each end.
- * Returns how many reports were made: as many as there are and as the room takes, at most 64. To go
+ * Returns how many reports were made: as many as there are and as the room takes, at most 8. To go
  * on, call again from the end of the last. 0, with room for one, says that there are no more.
  * Written: start, end, answer, detail of each report, at the start of the room. Numbers behind them
  * are kept. */

@@ -69,7 +69,7 @@ fn add(all: usize, result: usize) -> usize {
     all.rotate_left(1) ^ result
 }
 
-/// The reports of a stream: the library's in calls of 64, the second program's by its iterator.
+/// The reports of a stream: the library's in calls of eight, the second program's by its iterator.
 fn reports(name: &'static str, input: Vec<u8>) -> Job {
     let other = input.clone();
     Job {

@@ -8,4 +8,4 @@ pub mod clock;
 pub mod ffi;
 
 /// The most reports that the library makes in a call.
-pub const A_CALL: usize = 64;
+pub const A_CALL: usize = 8;

@@ -82,7 +82,7 @@ fn banks(size: usize) -> Vec<u8> {
 /// Goes through the reports of an input, giving each to the function until it says stop.
 type Through = fn(&[u8], &mut dyn FnMut(&[usize; 4]) -> bool);
 
-/// By calls for 64 reports each.
+/// By calls for eight reports each.
 fn by_reports(input: &[u8], each: &mut dyn FnMut(&[usize; 4]) -> bool) {
     let mut room = [0; 4 * A_CALL];
     let mut place = 0;

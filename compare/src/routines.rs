@@ -79,7 +79,7 @@ fn bank(bank: BankOutcome) -> (usize, Vec<usize>) {
     (answer.into(), vec![answer.into(), detail, place])
 }
 
-/// The reports from the call's place on, as many as its room takes, at most 64.
+/// The reports from the call's place on, as many as its room takes, at most eight.
 fn reports(call: &mut Call) -> (usize, Vec<usize>) {
     let most = A_CALL.min(call.numbers.get().len() / 4);
     let mut place = call.place;

@@ -167,7 +167,7 @@ pub fn read(s: &[u8], place: usize, buffer: &mut [u8], numbers: &mut [usize]) ->
     }
 }
 
-/// The reports from a place on, four numbers each, at most 64; returns how many.
+/// The reports from a place on, four numbers each, at most eight; returns how many.
 #[inline]
 pub fn reports(s: &[u8], place: usize, room: &mut [usize]) -> usize {
     // SAFETY: two slices with their own lengths; `room`, which is written, is `&mut`.

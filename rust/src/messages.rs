@@ -351,7 +351,7 @@ pub const fn reports(input: &[u8]) -> Reports<'_> {
     }
 }
 
-/// An iterator over the reports of a stream, which it takes from the library 64 at a time. Made by
+/// An iterator over the reports of a stream, which it takes from the library eight at a time. Made by
 /// [`reports`].
 #[derive(Clone, Debug)]
 #[must_use = "iterators are lazy"]
@@ -365,7 +365,7 @@ pub struct Reports<'a> {
 
 impl Reports<'_> {
     /// The most that the library makes in a call.
-    const A_CALL: usize = 64;
+    const A_CALL: usize = 8;
 }
 
 impl Iterator for Reports<'_> {

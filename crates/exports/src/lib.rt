@@ -105,7 +105,7 @@ pub extern "C" fn matrix_read(
     put_reading(reading::recording::read(s, place, buffer), numbers)
 }
 
-// How many reports from a place on were made, four numbers each at the start of the room: as many as fit, at most 64. Go on from the
+// How many reports from a place on were made, four numbers each at the start of the room: as many as fit, at most 8. Go on from the
 // end of the last; none made, with room for one, says that there are no more.
 #[no_mangle]
 pub extern "C" fn matrix_reports(s: &[u8], place: usize, room: &mut [usize]) -> usize

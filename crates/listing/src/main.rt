@@ -127,7 +127,7 @@ fn main() {
         io::write_all(STDOUT_FILENO, b"input too long\n");
         return;
     }
-    let mut room = [0usize; 256];
+    let mut room = [0usize; 32];
     let mut text = io::buffer();
     list(&input[..n], &mut room, &mut text);
 }

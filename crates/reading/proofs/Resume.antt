@@ -44,14 +44,14 @@ record Most (s : List ℕ) (p : ℕ) (room : List ℕ) : Type 0 where
 
 most-of : (s : List ℕ) (p : ℕ) (room : List ℕ) → Most s p room
 unfolding made
-most-of s p room = by-room (decLe 64 (length room / 4))
+most-of s p room = by-room (decLe 8 (length room / 4))
   where
-    by-room : Dec (64 ≤ length room / 4) → Most s p room
-    by-room (yes h) = record { most = 64; taken = take-take 64 (length room / 4) (from s p) h; some = λ _. omega arith }
+    by-room : Dec (8 ≤ length room / 4) → Most s p room
+    by-room (yes h) = record { most = 8; taken = take-take 8 (length room / 4) (from s p) h; some = λ _. omega arith }
     by-room (no h) =
         record {
           most = length room / 4;
-          taken = take-all 64 (take (length room / 4) (from s p)) (omega (arith, take-most (length room / 4) (from s p), h));
+          taken = take-all 8 (take (length room / 4) (from s p)) (omega (arith, take-most (length room / 4) (from s p), h));
           some = λ k. omega arith;
         }
 

@@ -91,32 +91,32 @@ lists-fits {rs} {old} {new} {k} l = omega (arith, l .count, take-most (length ol
 pub four-numbers : (m : Report) (r : Numbers) → r ≡ numbersOf m → _≡_ {A = List ℕ} (r .start ∷ r .end ∷ r .answer ∷ r .detail ∷ []) (fourOf m)
 four-numbers m r e = rw e
 
--- At most 64 of the reports, from a room of more than 256 numbers of which the first 256 were lent, and from a smaller one.
+-- At most 8 of the reports, from a room of more than 32 numbers of which the first 32 were lent, and from a smaller one.
 module _ (s : List ℕ) (place : ℕ) where
   all : List Report
   all = scan judge place outside (drop place s)
 
-  pub fills-part : (old part : List ℕ) (n : ℕ) → 256 < length old → Lists (scan judge place outside (drop place s)) (take 256 old) part n
-      → Fills s place old (part ++ drop 256 old) n
+  pub fills-part : (old part : List ℕ) (n : ℕ) → 32 < length old → Lists (scan judge place outside (drop place s)) (take 32 old) part n
+      → Fills s place old (part ++ drop 32 old) n
   unfolding made all
   fills-part old part n h l =
-      let few : length (take 256 old) ≡ 256 = length-take-le 256 old (omega arith) in
-      let lent : length (take 256 old) / 4 ≡ 64 = omega arith in
-      let same : take 64 (take (length old / 4) all) ≡ take 64 all = take-take 64 (length old / 4) all (omega arith) in
-      let m = length (take 64 all) in
-      let fits : 4 * m ≤ length (take 256 old) = omega (arith, take-most 64 all) in
-      let kept : drop (4 * m) (take 256 old) ++ drop 256 old ≡ drop (4 * m) old =
-      sym (drop-append-le (4 * m) (take 256 old) (drop 256 old) fits) ∙ ap (drop (4 * m)) (take-append-drop 256 old) in
+      let few : length (take 32 old) ≡ 32 = length-take-le 32 old (omega arith) in
+      let lent : length (take 32 old) / 4 ≡ 8 = omega arith in
+      let same : take 8 (take (length old / 4) all) ≡ take 8 all = take-take 8 (length old / 4) all (omega arith) in
+      let m = length (take 8 all) in
+      let fits : 4 * m ≤ length (take 32 old) = omega (arith, take-most 8 all) in
+      let kept : drop (4 * m) (take 32 old) ++ drop 32 old ≡ drop (4 * m) old =
+      sym (drop-append-le (4 * m) (take 32 old) (drop 32 old) fits) ∙ ap (drop (4 * m)) (take-append-drop 32 old) in
       record {
         count = rw same (rw lent at (l .count));
-        numbers = rw same (rw (rw lent at (l .numbers), append-assoc (flat (take 64 all)) (drop (4 * m) (take 256 old)) (drop 256 old), kept) refl);
+        numbers = rw same (rw (rw lent at (l .numbers), append-assoc (flat (take 8 all)) (drop (4 * m) (take 32 old)) (drop 32 old), kept) refl);
       }
 
-  pub fills-whole : (old new : List ℕ) (n : ℕ) → length old ≤ 256 → Lists (scan judge place outside (drop place s)) old new n → Fills s place old new n
+  pub fills-whole : (old new : List ℕ) (n : ℕ) → length old ≤ 32 → Lists (scan judge place outside (drop place s)) old new n → Fills s place old new n
   unfolding made
   fills-whole old new n h l =
       let rs = scan judge place outside (drop place s) in
-      let same : take 64 (take (length old / 4) rs) ≡ take (length old / 4) rs = take-all 64 (take (length old / 4) rs) (omega (arith, take-most (length old / 4) rs)) in
+      let same : take 8 (take (length old / 4) rs) ≡ take (length old / 4) rs = take-all 8 (take (length old / 4) rs) (omega (arith, take-most (length old / 4) rs)) in
       record { count = rw same (l .count); numbers = rw same (l .numbers) }
 
 -- The last report's end stands at the second of its four numbers.
@@ -133,7 +133,7 @@ pub makes-none : (s : List ℕ) (place : ℕ) (room : List ℕ) → length s ≤
 unfolding made flat endOf
 makes-none s place room h =
     let none : drop place s ≡ [] = drop-of-length-le s h in
-    let nothing : take 64 (take (length room / 4) (scan judge place outside (drop place s))) ≡ [] = rw (none, take-nil (length room / 4)) in
+    let nothing : take 8 (take (length room / 4) (scan judge place outside (drop place s))) ≡ [] = rw (none, take-nil (length room / 4)) in
     record { fills = record { count = rw nothing; numbers = rw nothing }; next = rw nothing }
 
 -- Where no report was made, or some, from where to go on.
@@ -157,4 +157,4 @@ module _ (s : List ℕ) (place : ℕ) (old new : List ℕ) (n : ℕ) (f : Fills 
   unfolding made
   made-fits =
       let rs = scan judge place outside (drop place s) in
-      omega (arith, f .count, take-le 64 (take (length old / 4) rs), take-most (length old / 4) rs)
+      omega (arith, f .count, take-le 8 (take (length old / 4) rs), take-most (length old / 4) rs)

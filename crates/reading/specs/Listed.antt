@@ -26,9 +26,9 @@ unfoldable pub endOf : ℕ → List Report → ℕ
 endOf p [] = p
 endOf p (r ∷ rs) = endOf (r .end) rs
 
--- The reports from a place on that one call makes: as many as the room has place for, at most 64.
+-- The reports from a place on that one call makes: as many as the room has place for, at most 8.
 unfoldable pub made : List ℕ → ℕ → List ℕ → List Report
-made s place room = take 64 (take (length room / 4) (scan judge place outside (drop place s)))
+made s place room = take 8 (take (length room / 4) (scan judge place outside (drop place s)))
 
 -- They stand at the start of the room, and n is how many they are.
 pub record Fills (s : List ℕ) (place : ℕ) (old new : List ℕ) (n : ℕ) : Type 0 where

@@ -62,18 +62,18 @@ fn list_inside(rest: &[u8], start: usize, room: &mut [usize]) -> usize
     1 + list_outside(&rest[n + 1..], place + 1, &mut room[4..])
 }
 
-// The reports from a place of the input on, as many as fit, at most 64. The caller below has seen that the place is one of the input.
+// The reports from a place of the input on, as many as fit, at most 8. The caller below has seen that the place is one of the input.
 fn list_some(s: &[u8], place: usize, room: &mut [usize]) -> usize
     requires { ⌜ place ≤ length (now s) ⌝ }
     ensures { λ r. ⌜ Fills (now (s .entry)) place (now (room .entry)) (now (room .exit)) r ⌝ }
 {
-    if 256 < room.len() {
-        return list_outside(&s[place..], place, &mut room[..256]);
+    if 32 < room.len() {
+        return list_outside(&s[place..], place, &mut room[..32]);
     }
     list_outside(&s[place..], place, room)
 }
 
-// The reports from a place on, four numbers each, at the start of the lent room: as many as fit, at most 64 a call, which bounds
+// The reports from a place on, four numbers each, at the start of the lent room: as many as fit, at most 8 a call, which bounds
 // how many calls of the two states are under way.
 pub fn reports(s: &[u8], place: usize, room: &mut [usize]) -> Listed
     ensures { λ r. ⌜ Makes (now (s .entry)) place (now (room .entry)) (now (room .exit)) r ⌝ }

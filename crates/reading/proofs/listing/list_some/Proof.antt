@@ -1,4 +1,4 @@
--- `list_some` lends the first 256 numbers of a larger room, so that no more than 64 reports are made.
+-- `list_some` lends the first 32 numbers of a larger room, so that no more than 8 reports are made.
 use mathlib.Core.Path.{sym}
 use native.Mathlib.Omega.{arith}
 use lib.Seq.{length-take-le}
@@ -9,7 +9,7 @@ use Rattle.reading.proofs.listing.list_some.Statement.{statement}
 use Rattle.reading.proofs.listing.list_some.Tie as tie
 
 slice-aggregate-list-outside : tie.Need-slice-aggregate-list-outside
-slice-aggregate-list-outside c = sym (length-take-le 256 (c .before .before .before .before .before .args .room .now) (omega arith))
+slice-aggregate-list-outside c = sym (length-take-le 32 (c .before .before .before .before .before .args .room .now) (omega arith))
 
 returns : tie.Need-returns
 returns c =
