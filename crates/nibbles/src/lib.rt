@@ -5,6 +5,7 @@ use answers::Outcome;
 use answers::WIDE_DATA;
 use answers::WRONG_LENGTH;
 ghost use mathlib.Core.Path.{_≡_};
+ghost use mathlib.Core.Bool.{true};
 ghost use mathlib.Core.List.{_++_};
 ghost use mathlib.Core.Option.{none};
 ghost use Prim.Native.Nat.{_*_, _/_, _≤_};
@@ -33,10 +34,31 @@ pub fn checksum(packed: &[u8]) -> u8
     total % 128
 }
 
+// Whether no data byte is above 15: without a branch, so that sixteen bytes are seen at once.
+fn none_wide(sent: &[u8]) -> bool
+    ensures { λ r. ⌜ (r ≡ true → firstWide (now (sent .entry)) ≡ none) ⌝ }
+{
+    let mut found: u8 = 0;
+    let mut i: usize = 0;
+    while i < sent.len() {
+        let b = sent[i];
+        if 15 < b {
+            found = 1;
+            i += 1;
+        } else {
+            i += 1;
+        }
+    }
+    found == 0
+}
+
 // The first data byte above 15.
 pub fn first_wide(sent: &[u8]) -> Wide
     ensures { λ r. ⌜ r ≡ foundWide (firstWide (now (sent .entry))) ⌝ }
 {
+    if none_wide(sent) {
+        return Wide::Nowhere;
+    }
     let mut i: usize = 0;
     while i < sent.len() {
         if 15 < sent[i] {
@@ -80,7 +102,9 @@ fn put_packed(sent: &[u8], out: &mut [u8])
     let n = sent.len() / 2;
     let mut i: usize = 0;
     while i < n {
-        out[i] = sent[2 * i] + 16 * sent[2 * i + 1];
+        // A pair of nibbles as one word, so that eight are packed at once: its upper nibble comes down to the lower.
+        let word = sent[2 * i] as u16 + 256 * (sent[2 * i + 1] as u16);
+        out[i] = ((word + word / 16) % 256) as u8;
         i += 1;
     }
 }

@@ -6,3 +6,7 @@ pub mod Rules
 pub mod Accepted
 pub mod NameLaws
 pub mod Buses
+pub mod Widths
+pub mod RangeKinds
+pub mod Passes
+pub mod Places

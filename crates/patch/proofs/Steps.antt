@@ -8,8 +8,7 @@ use native.Mathlib.Omega.{arith}
 use native.Mathlib.Numerals.{add-one}
 use lib.ListN.{length, getD, take, drop, set, length-map, drop-of-length-le}
 use lib.Seq.{drop-cons, take-suc, set-at, length-take-le}
-use borrow.Author.Tests.{eq-eqb, ne-eqb}
-use Rattle.patch.specs.Fields.{searchFrom, parameterAt, placeAt, inRange}
+use Rattle.patch.specs.Fields.{inRange}
 use Rattle.patch.specs.Patch.{outFrom, halfFrom, halfUsed}
 use Rattle.patch.specs.Names.{anyOutside}
 
@@ -18,19 +17,6 @@ one-more n k h = let e : n - k ≡ (n - (k + 1)) + 1 = omega arith in e ∙ add-
 
 none-left : (n k : ℕ) → n ≤ k → n - k ≡ 0
 none-left n k h = omega arith
-
--- The rows of the table, searched for a parameter.
-pub row-missed : (k n : ℕ) → k < 134 → (parameterAt k ≡ n → ⊥) → searchFrom (134 - k) k n ≡ searchFrom (134 - (k + 1)) (k + 1) n
-unfolding searchFrom
-row-missed k n h ne = rw (one-more 134 k h) (simp (ne-eqb _ _ ne))
-
-pub row-found : (k n : ℕ) → k < 134 → parameterAt k ≡ n → searchFrom (134 - k) k n ≡ some (placeAt k)
-unfolding searchFrom
-row-found k n h e = rw (one-more 134 k h) (simp (eq-eqb _ _ e))
-
-pub rows-done : (k n : ℕ) → 134 ≤ k → searchFrom (134 - k) k n ≡ none
-unfolding searchFrom
-rows-done k n h = rw (none-left 134 k h)
 
 -- The bytes of a patch, searched for one out of range.
 pub byte-in : (p : List ℕ) (k : ℕ) → k < length p → inRange k (getD p k 0) ≡ true → outFrom k (drop k p) ≡ outFrom (k + 1) (drop (k + 1) p)

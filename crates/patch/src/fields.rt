@@ -1,4 +1,7 @@
 // The listing's columns: byte place, parameter number, least and greatest value.
+use crate::columns::KINDS;
+use crate::columns::PLACES;
+use crate::columns::RANGES;
 ghost use mathlib.Core.Path.{_≡_};
 ghost use Prim.Native.Nat.{ℕ, _<_};
 ghost use lib.ListN.{getD};
@@ -727,14 +730,11 @@ pub fn place_of(parameter: Parameter) -> FoundPlace
     if 99 < n {
         return FoundPlace::Nothing;
     }
-    let mut k: usize = 0;
-    while k < 134 {
-        if entry(k * 4 + 1) == n {
-            return FoundPlace::At(BytePlace(entry(k * 4)));
-        }
-        k += 1;
+    let k = PLACES[n as usize];
+    if k == 255 {
+        return FoundPlace::Nothing;
     }
-    FoundPlace::Nothing
+    FoundPlace::At(BytePlace(k))
 }
 
 // The parameter of a place, by the table.
@@ -769,10 +769,12 @@ pub fn lies_between(least: u8, greatest: u8, b: u8) -> bool
     }
 }
 
-// A byte lies in the range of its field. The tests of a patch and of an edit call it with a place of the table.
+// A byte lies in the range of its field. The tests of an edit call it with a place of the table.
 pub fn in_range(place: usize, b: u8) -> bool
     requires { ⌜ place < 134 ⌝ }
     ensures { λ r. ⌜ r ≡ inRange place b ⌝ }
 {
-    lies_between(entry(place * 4 + 2), entry(place * 4 + 3), b)
+    let kind = (KINDS[place / 16] >> (4 * (place % 16))) % 16;
+    let range = RANGES[kind as usize];
+    std::num::wrapping_sub_u8(b, (range % 256) as u8) <= (range / 256) as u8
 }

@@ -9,6 +9,7 @@ use lib.Seq.{length-take-le}
 use Rattle.answers.proofs.Lists.{put-next, all-get}
 use Rattle.nibbles.specs.Nibbles.{pack}
 use Rattle.nibbles.proofs.Laws.{length-pack, pack-take, pack-whole, wide-none}
+use Rattle.nibbles.proofs.Passing.{word-packed}
 use Rattle.nibbles.proofs.put_packed.Statement.{statement}
 use Rattle.nibbles.proofs.put_packed.Tie as tie
 
@@ -19,12 +20,12 @@ abbrev μ-loop : tie.MeasureT-loop
 μ-loop sent out₀ n i₀ out i = n - i
 
 -- One pair more.
-step : (s o₀ o : List ℕ) (i : ℕ) → i < length s / 2 → length s / 2 ≤ length o₀ → o ≡ pack (take (2 * i) s) ++ drop i o₀
-    → set o i (getD s (2 * i) 0 + 16 * getD s (2 * i + 1) 0) ≡ pack (take (2 * (i + 1)) s) ++ drop (i + 1) o₀
-step s o₀ o i h room e =
+step : (s o₀ o : List ℕ) (i x : ℕ) → x ≡ getD s (2 * i) 0 + 16 * getD s (2 * i + 1) 0 → i < length s / 2 → length s / 2 ≤ length o₀ → o ≡ pack (take (2 * i) s) ++ drop i o₀
+    → set o i x ≡ pack (take (2 * (i + 1)) s) ++ drop (i + 1) o₀
+step s o₀ o i x byte h room e =
     let A = pack (take (2 * i) s) in
     let la : length A ≡ i = omega (arith, length-pack (take (2 * i) s), length-take-le (2 * i) s (omega arith)) in
-    rw (e, put-next A o₀ i (getD s (2 * i) 0 + 16 * getD s (2 * i + 1) 0) la (omega arith), pack-take s i (omega arith))
+    rw (e, byte, put-next A o₀ i (getD s (2 * i) 0 + 16 * getD s (2 * i + 1) 0) la (omega arith), pack-take s i (omega arith))
 
 loop-holds : tie.Need-loop-holds Inv-loop μ-loop
 unfolding pack
@@ -41,19 +42,14 @@ narrow c =
     let all = wide-none 0 sent (c .before .before .before .before .pre .0) in
     (all-get (λ b. b < 16) sent (2 * i) 0 (omega arith) all, all-get (λ b. b < 16) sent (2 * i + 1) 0 (omega arith) all)
 
-mul-out-3 : tie.Need-mul-out-3 Inv-loop μ-loop
-mul-out-3 c = omega (arith, narrow c)
-
-add-out-2 : tie.Need-add-out-2 Inv-loop μ-loop
-add-out-2 c = omega (arith, narrow c)
-
 loop-again : tie.Need-loop-again Inv-loop μ-loop
 loop-again c =
     let start = c .before .before .before .before in
-    let at = c .before .before .before .loop in (
+    let at = c .before .before .before .loop in
+    let both = narrow c in (
       omega arith,
       simp length-set (omega arith),
-      step (start .args .sent .now) (start .args .out .now) (at .out) (at .i) (c .before .before .loop-test .taken) (start .pre .1) (at .inv .2),
+      step (start .args .sent .now) (start .args .out .now) (at .out) (at .i) _ (word-packed _ _ (both .0) (both .1)) (c .before .before .loop-test .taken) (start .pre .1) (at .inv .2),
     )
 
 returns : tie.Need-returns Inv-loop μ-loop
@@ -71,11 +67,15 @@ put-packed-spec =
     loop-holds
     (λ c. omega arith)
     (λ c. omega arith)
+    (λ c. omega (arith, c .shared-slice-known .given (2 * c .before .before .loop .i)))
     (λ c. omega arith)
     (λ c. omega arith)
     (λ c. omega arith)
-    mul-out-3
-    add-out-2
+    (λ c. omega (arith, narrow c))
+    (λ c. omega (arith, narrow c))
+    (λ c. omega (arith, narrow c))
+    (λ c. omega (arith, narrow c))
+    (λ c. omega arith)
     (λ c. omega arith)
     (λ c. omega arith)
     (λ c. omega arith)

@@ -16,22 +16,25 @@ abbrev μ-loop : tie.MeasureT-loop
 μ-loop p b₀ b = 10 - b
 
 returns : tie.Need-returns Inv-loop μ-loop
-returns c =
+returns c = sym (ap foundAt (c .before .buses-whole .ensures (c .if1 .taken)))
+
+returns-2 : tie.Need-returns-2 Inv-loop μ-loop
+returns-2 c =
     let l = c .before .before .before .before .before in
-    let p = l .before .before .args .p .now in
-    let e = l .loop .inv .1 ∙ bus-half p (l .loop .b) (omega arith) (sym (c .before .half-used .ensures) ∙ c .if1 .taken) in
+    let p = l .before .before .before .before .args .p .now in
+    let e = l .loop .inv .1 ∙ bus-half p (l .loop .b) (omega arith) (sym (c .before .half-used .ensures) ∙ c .if2 .taken) in
     sym (ap foundAt e)
 
 loop-again : tie.Need-loop-again Inv-loop μ-loop
 loop-again c =
     let l = c .before .before .before .before .before in
-    let p = l .before .before .args .p .now in
-    (search needs, l .loop .inv .1 ∙ bus-whole p (l .loop .b) (omega arith) (sym (c .before .half-used .ensures) ∙ c .if1 .left))
+    let p = l .before .before .before .before .args .p .now in
+    (search needs, l .loop .inv .1 ∙ bus-whole p (l .loop .b) (omega arith) (sym (c .before .half-used .ensures) ∙ c .if2 .left))
 
-returns-2 : tie.Need-returns-2 Inv-loop μ-loop
-returns-2 c =
+returns-3 : tie.Need-returns-3 Inv-loop μ-loop
+returns-3 c =
     let l = c .before in
-    sym (ap foundAt (l .loop .inv .1 ∙ buses-done (l .before .before .args .p .now) (l .loop .b) (omega arith)))
+    sym (ap foundAt (l .loop .inv .1 ∙ buses-done (l .before .before .before .before .args .p .now) (l .loop .b) (omega arith)))
 
 pub first-half-spec : {M : Type 1} → statement M
 first-half-spec =
@@ -39,6 +42,8 @@ first-half-spec =
     (tie.spec
     Inv-loop
     μ-loop
+    (λ c κs. search needs)
+    returns
     (λ c. (search needs, refl))
     (λ c. omega arith)
     (λ c. omega arith)
@@ -47,8 +52,8 @@ first-half-spec =
     (λ c. omega arith)
     (λ c. omega arith)
     (λ c κs. search needs)
-    returns
+    returns-2
     (λ c. omega arith)
     (λ c. omega arith)
     loop-again
-    returns-2)
+    returns-3)

@@ -1,0 +1,85 @@
+-- A field's range as its least value and its width, the greatest minus the least modulo 256: a byte lies in the range exactly when, less
+-- the least modulo 256, it is at most the width.
+use mathlib.Core.Path.{_≡_, refl}
+use mathlib.Core.Bool.{Bool, true, false, cond}
+use mathlib.Core.List.{List, [], _∷_}
+use Prim.Native.Nat.{ℕ, zero, suc, _+_, _-_, _*_, _/_, _%_, _≤_, _<_}
+use native.Mathlib.Nat.{le-of-suc-le-suc}
+use native.Mathlib.Omega.{arith}
+use lib.Dec.{leb, ltb}
+use lib.ListN.{getD}
+use borrow.Author.Tests.{ltb-true, ltb-false, leb-true, leb-false, lt-ltb}
+use Rattle.patch.specs.Fields.{leastAt, greatestAt, between, inRange}
+use Rattle.patch.proofs.Rules.{ranges}
+
+-- What f gives at the n numbers from k on.
+unfoldable pub column : (ℕ → ℕ) → ℕ → ℕ → List ℕ
+column f zero k = []
+column f (suc n) k = f k ∷ column f n (suc k)
+
+column-get : (f : ℕ → ℕ) (n k j : ℕ) → j < n → getD (column f n k) j 0 ≡ f (k + j)
+unfolding column
+column-get f zero k j h = absurd (omega arith)
+column-get f (suc n) k zero h = let e : k ≡ k + 0 = omega arith in rw (← e)
+column-get f (suc n) k (suc j) h = let e : k + suc j ≡ suc k + j = omega arith in rw e (column-get f n (suc k) j (le-of-suc-le-suc h))
+
+pub column-at : (f : ℕ → ℕ) (n : ℕ) (l : List ℕ) → l ≡ column f n 0 → (j : ℕ) → j < n → getD l j 0 ≡ f j
+column-at f n l e j h = rw e (let z : 0 + j ≡ j = omega arith in rw z at (column-get f n 0 j h))
+
+-- How far a place's values go above the least.
+abbrev pub widthAt : ℕ → ℕ
+widthAt k = (greatestAt k + (256 - leastAt k)) % 256
+
+-- Both in one number.
+abbrev pub rangeAt : ℕ → ℕ
+rangeAt k = leastAt k + 256 * widthAt k
+
+between-width : (l g b r w : ℕ) → l < 256 → g < 256 → b < 256 → r < 256 → (r + l) % 256 ≡ b → w ≡ (g + (256 - l)) % 256 → between l g b ≡ leb r w
+unfolding between
+between-width l g b r w hl hg hb hr er ew = go (leb l g) (ltb b l) (leb b g) (leb r w) refl refl refl refl
+  where
+    go : (t u v x : Bool) → leb l g ≡ t → ltb b l ≡ u → leb b g ≡ v → leb r w ≡ x → cond t (cond u false v) (cond u v (ltb b 256)) ≡ x
+    go true true v true q₁ q₂ q₃ q₄ = let a = leb-true l g q₁ in let c = ltb-true b l q₂ in let d = leb-true r w q₄ in absurd (omega arith)
+    go true true v false q₁ q₂ q₃ q₄ = refl
+    go true false true true q₁ q₂ q₃ q₄ = refl
+    go true false true false q₁ q₂ q₃ q₄ =
+        let a = leb-true l g q₁ in let c = ltb-false b l q₂ in let e = leb-true b g q₃ in let d = leb-false r w q₄ in absurd (omega arith)
+    go true false false true q₁ q₂ q₃ q₄ =
+        let a = leb-true l g q₁ in let c = ltb-false b l q₂ in let e = leb-false b g q₃ in let d = leb-true r w q₄ in absurd (omega arith)
+    go true false false false q₁ q₂ q₃ q₄ = refl
+    go false true true true q₁ q₂ q₃ q₄ = refl
+    go false true true false q₁ q₂ q₃ q₄ =
+        let a = leb-false l g q₁ in let c = ltb-true b l q₂ in let e = leb-true b g q₃ in let d = leb-false r w q₄ in absurd (omega arith)
+    go false true false true q₁ q₂ q₃ q₄ =
+        let a = leb-false l g q₁ in let c = ltb-true b l q₂ in let e = leb-false b g q₃ in let d = leb-true r w q₄ in absurd (omega arith)
+    go false true false false q₁ q₂ q₃ q₄ = refl
+    go false false v true q₁ q₂ q₃ q₄ = lt-ltb b 256 hb
+    go false false v false q₁ q₂ q₃ q₄ =
+        let a = leb-false l g q₁ in let c = ltb-false b l q₂ in let d = leb-false r w q₄ in absurd (omega arith)
+
+-- A byte b of place k, by what is left of it above the least.
+pub in-range-width : (k b r : ℕ) → k < 134 → b < 256 → r < 256 → (r + leastAt k) % 256 ≡ b → inRange k b ≡ leb r (widthAt k)
+unfolding inRange
+in-range-width k b r h hb hr e =
+    let bounds = ranges k h in
+    between-width (leastAt k) (greatestAt k) b r (widthAt k) (bounds .least-byte) (bounds .greatest-byte) hb hr e refl
+
+-- The same by the two columns.
+pub in-range-columns : (least width : List ℕ) → least ≡ column leastAt 134 0 → width ≡ column widthAt 134 0 → (k b r : ℕ) → k < 134 → b < 256
+    → r < 256 → (r + getD least k 0) % 256 ≡ b → inRange k b ≡ leb r (getD width k 0)
+in-range-columns least width el ew k b r h hb hr e =
+    let l = column-at leastAt 134 least el k h in
+    let w = column-at widthAt 134 width ew k h in
+    rw w (in-range-width k b r h hb hr (rw l at e))
+
+-- The same by the two in one number.
+pub in-range-number : (k b r n : ℕ) → k < 134 → b < 256 → r < 256 → n ≡ rangeAt k → (r + n % 256) % 256 ≡ b → inRange k b ≡ leb r (n / 256)
+in-range-number k b r n h hb hr en e =
+    let small = ranges k h .least-byte in
+    let low : n % 256 ≡ leastAt k = omega arith in
+    let high : n / 256 ≡ widthAt k = omega arith in
+    rw high (in-range-width k b r h hb hr (rw low at e))
+
+-- Its upper part is a byte.
+pub number-high : (k n : ℕ) → k < 134 → n ≡ rangeAt k → n / 256 < 256
+number-high k n h en = let small = ranges k h .least-byte in omega arith
