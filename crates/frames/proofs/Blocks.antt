@@ -3,9 +3,10 @@ use mathlib.Core.Path.{_≡_, refl, sym, ap, _∙_}
 use mathlib.Core.Bool.{Bool, true, false}
 use mathlib.Core.List.{List, [], _∷_}
 use Prim.Native.Nat.{ℕ, zero, suc, _+_, _<_, _≤_}
-use native.Mathlib.Nat.{add-zero, lt-of-not-le}
+use native.Mathlib.Nat.{add-zero, le-trans, lt-of-not-le}
 use native.Mathlib.Omega.{arith}
 use native.Mathlib.Numerals.{add-one}
+use lib.Bits.{bitOr, or-add-and, and-le-l, and-le-r}
 use lib.Dec.{eqb}
 use lib.ListN.{length, drop, getD}
 use borrow.Author.Tests.{eqb-false}
@@ -27,6 +28,18 @@ flag-clear found h e = let n = eqb-false found 1 e in by-flag found h n
     by-flag zero h n = refl
     by-flag (suc zero) h n = absurd (n refl)
     by-flag (suc (suc x)) h n = absurd (omega arith)
+
+-- Each of the first n bytes from index i on is at most a number.
+abbrev pub Upto : ℕ → ℕ → ℕ → List ℕ → Type 0
+Upto a i n s = (j : ℕ) → j < n → getD s (i + j) 0 ≤ a
+
+-- One byte more, its bits put to those of the number.
+pub upto-more : (s : List ℕ) (i n a : ℕ) → Upto a i n s → Upto (bitOr a (getD s (i + n) 0)) i (n + 1) s
+upto-more s i n a h =
+    let b = getD s (i + n) 0 in
+    let left : a ≤ bitOr a b = omega (arith, or-add-and a b, and-le-r a b) in
+    let right : b ≤ bitOr a b = omega (arith, or-add-and a b, and-le-l a b) in
+    below-more (λ (j : ℕ). getD s (i + j) 0 ≤ bitOr a b) n (λ j k. le-trans (h j k) left) right
 
 -- n bytes from i on without an F0H.
 pub ahead-block : (s : List ℕ) (n i : ℕ) → i + n ≤ length s → None (λ b. b ≡ 0xF0) i n s → ahead (drop i s) ≡ n + ahead (drop (i + n) s)
@@ -56,10 +69,10 @@ module _ (s : List ℕ) where
       let quiet = ap realTimeIn e ∙ real-time-data (getD s i 0) (body (drop (i + 1) s)) (omega arith) in
       (omega (arith, ap length e, rw next at (rest .0)), quiet ∙ rw next at (rest .1))
 
-  pub onward-none : (i : ℕ) → i ≤ length s → Onward s i i
-  onward-none i h = record { on = omega arith; within = h; counted = refl; quiet = refl }
+  pub onward-none : Onward s 0
+  onward-none = record { within = omega arith; counted = omega arith; quiet = refl }
 
-  pub onward-block : (f i : ℕ) → i + 16 ≤ length s → Onward s f i → None (λ b. 0x80 ≤ b) i 16 s → Onward s f (i + 16)
-  onward-block f i h o none =
+  pub onward-more : (i : ℕ) → i + 16 ≤ length s → Onward s i → None (λ b. 0x80 ≤ b) i 16 s → Onward s (i + 16)
+  onward-more i h o none =
       let b = body-block 16 i h none in
-      record { on = omega (arith, o .on); within = h; counted = omega (arith, o .counted, b .0); quiet = o .quiet ∙ b .1 }
+      record { within = h; counted = omega (arith, o .counted, b .0); quiet = o .quiet ∙ b .1 }

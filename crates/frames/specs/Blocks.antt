@@ -15,9 +15,8 @@ pub record Ahead (s : List ℕ) (r : ℕ) : Type 0 where
   pub within : r ≤ length s
   pub left : ahead s ≡ r + ahead (drop r s)
 
--- Only data bytes stand from index i to r: what is left of the body starts at r.
-pub record Onward (s : List ℕ) (i r : ℕ) : Type 0 where
-  pub on : i ≤ r
+-- Only data bytes stand among the first r: what is left of the body starts there.
+pub record Onward (s : List ℕ) (r : ℕ) : Type 0 where
   pub within : r ≤ length s
-  pub counted : i + length (body (drop i s)) ≡ r + length (body (drop r s))
-  pub quiet : realTimeIn (body (drop i s)) ≡ realTimeIn (body (drop r s))
+  pub counted : length (body s) ≡ r + length (body (drop r s))
+  pub quiet : realTimeIn (body s) ≡ realTimeIn (body (drop r s))

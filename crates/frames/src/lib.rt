@@ -94,30 +94,26 @@ fn ending(b: u8) -> u8
     INTERRUPTED
 }
 
-// Whether one of the 16 bytes from `at` on is above 7FH. The caller below has seen that there are 16.
+// Whether one of the 16 bytes from `at` on is above 7FH: put together bit by bit, they are above it too. The caller below has seen
+// that there are 16.
 fn block_ends(bytes: &[u8], at: usize) -> bool
     requires { ⌜ at + 16 ≤ length (now bytes) ⌝ }
     ensures { λ r. ⌜ (r ≡ false → None (λ b. 0x80 ≤ b) at 16 (now (bytes .entry))) ⌝ }
 {
-    let mut found: u8 = 0;
+    let mut all: u8 = 0;
     let mut j: usize = 0;
     while j < 16 {
-        if 0x7F < bytes[at + j] {
-            found = 1;
-            j += 1;
-        } else {
-            j += 1;
-        }
+        all |= bytes[at + j];
+        j += 1;
     }
-    found == 1
+    0x7F < all
 }
 
-// How far the blocks of 16 data bytes from `from` on reach. The caller below gives an index of the bytes.
-fn skip_data(rest: &[u8], from: usize) -> usize
-    requires { ⌜ from ≤ length (now rest) ⌝ }
-    ensures { λ r. ⌜ Onward (now (rest .entry)) from r ⌝ }
+// How many bytes the blocks of 16 data bytes at the start take.
+fn skip_data(rest: &[u8]) -> usize
+    ensures { λ r. ⌜ Onward (now (rest .entry)) r ⌝ }
 {
-    let mut i: usize = from;
+    let mut i: usize = 0;
     while i + 16 <= rest.len() {
         if block_ends(rest, i) {
             return i;
@@ -127,12 +123,11 @@ fn skip_data(rest: &[u8], from: usize) -> usize
     i
 }
 
-// The span of a message from an index on up to which only data bytes stand. The caller below has passed them.
-fn find_end_from(rest: &[u8], from: usize) -> Span
-    requires { ⌜ Onward (now rest) 0 from ⌝ }
+// How far a message runs, from the bytes behind its F0H.
+pub fn find_end(rest: &[u8]) -> Span
     ensures { λ r. ⌜ r ≡ spanOf (now (rest .entry)) ⌝ }
 {
-    let mut i: usize = from;
+    let mut i: usize = skip_data(rest);
     let mut noise: usize = 0;
     while i < rest.len() {
         let b = rest[i];
@@ -140,7 +135,7 @@ fn find_end_from(rest: &[u8], from: usize) -> Span
             i += 1;
         } else if 0xF7 < b {
             noise += 1;
-            i = skip_data(rest, i + 1);
+            i += 1;
         } else {
             return Span {
                 length: i,
@@ -154,18 +149,6 @@ fn find_end_from(rest: &[u8], from: usize) -> Span
         noise,
         ending: CUT,
     }
-}
-
-// How far a message runs, from the bytes behind its F0H.
-pub fn find_end(rest: &[u8]) -> Span
-    ensures { λ r. ⌜ r ≡ spanOf (now (rest .entry)) ⌝ }
-{
-    if 0 < rest.len() {
-        if rest[0] < 0x80 {
-            return find_end_from(rest, skip_data(rest, 0));
-        }
-    }
-    find_end_from(rest, 0)
 }
 
 // The bytes that are not real time, at the start of `out`, as many as fit; and how many they are.

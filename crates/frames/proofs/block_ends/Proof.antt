@@ -1,35 +1,32 @@
--- `block_ends` sets its flag at a byte above 7FH: where it stays clear, no byte passed is one.
+-- `block_ends` puts the bytes together bit by bit, and no byte is above what they come to.
 use mathlib.Core.Path.{_≡_}
-use Prim.Native.Nat.{ℕ, _≤_, _-_}
+use Prim.Native.Nat.{_≤_, _-_}
 use native.Mathlib.Omega.{arith}
-use Rattle.frames.specs.Blocks.{None}
-use Rattle.frames.proofs.Blocks.{flag-more, flag-clear}
+use borrow.Author.Tests.{ltb-false}
+use Rattle.frames.proofs.Blocks.{Upto, upto-more}
 use Rattle.frames.proofs.block_ends.Statement.{statement}
 use Rattle.frames.proofs.block_ends.Tie as tie
 
 abbrev Inv-loop : tie.InvT-loop
-Inv-loop bytes at found₀ j₀ found j = (j ≤ 16) × (found ≤ 1) × (found ≡ 0 → None (λ b. 0x80 ≤ b) at j bytes)
+Inv-loop bytes at all₀ j₀ all j = (j ≤ 16) × Upto all at j bytes
 
 abbrev μ-loop : tie.MeasureT-loop
-μ-loop bytes at found₀ j₀ found j = 16 - j
+μ-loop bytes at all₀ j₀ all j = 16 - j
 
 loop-holds : tie.Need-loop-holds Inv-loop μ-loop
-loop-holds c = (omega arith, omega arith, λ z j h. absurd (omega arith))
+loop-holds c = (omega arith, λ j h. absurd (omega arith))
 
 loop-again : tie.Need-loop-again Inv-loop μ-loop
-loop-again c = (omega arith, omega arith, λ z. absurd (omega arith))
-
-loop-again-2 : tie.Need-loop-again-2 Inv-loop μ-loop
-loop-again-2 c =
-    let at = c .before .before .before in
+loop-again c =
+    let at = c .before .before in
     let a = at .before .args in
-    (omega arith, omega arith, flag-more (λ b. 0x80 ≤ b) (a .bytes .now) (a .at) (at .loop .j) (at .loop .found) (at .loop .inv .2) (λ h. omega arith))
+    (omega arith, upto-more (a .bytes .now) (a .at) (at .loop .j) (at .loop .all) (at .loop .inv .1))
 
 returns : tie.Need-returns Inv-loop μ-loop
 returns c =
     let at = c .before in
     let e : at .loop .j ≡ 16 = omega arith in
-    λ z. rw e at (at .loop .inv .2 (flag-clear (at .loop .found) (at .loop .inv .1) z))
+    λ z j h b. let upto = rw e at (at .loop .inv .1) in let most = upto j h in let low = ltb-false 0x7F (at .loop .all) z in omega arith
 
 pub block-ends-spec : {M : Type 1} → statement M
 block-ends-spec =
@@ -43,7 +40,4 @@ block-ends-spec =
     (λ c. omega arith)
     (λ c. omega arith)
     loop-again
-    (λ c. omega arith)
-    (λ c. omega arith)
-    loop-again-2
     returns)

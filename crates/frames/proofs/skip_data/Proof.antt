@@ -4,18 +4,18 @@ use Prim.Native.Nat.{_-_, _+_}
 use native.Mathlib.Omega.{arith}
 use lib.ListN.{length}
 use Rattle.frames.specs.Blocks.{Onward}
-use Rattle.frames.proofs.Blocks.{onward-none, onward-block}
+use Rattle.frames.proofs.Blocks.{onward-none, onward-more}
 use Rattle.frames.proofs.skip_data.Statement.{statement}
 use Rattle.frames.proofs.skip_data.Tie as tie
 
 abbrev Inv-loop : tie.InvT-loop
-Inv-loop rest from i₀ i = Onward rest from i
+Inv-loop rest i₀ i = Onward rest i
 
 abbrev μ-loop : tie.MeasureT-loop
-μ-loop rest from i₀ i = length rest - i
+μ-loop rest i₀ i = length rest - i
 
 loop-holds : tie.Need-loop-holds Inv-loop μ-loop
-loop-holds c = onward-none (c .before .args .rest .now) (c .before .args .from) (c .before .pre)
+loop-holds c = onward-none (c .before .args .rest .now)
 
 returns : tie.Need-returns Inv-loop μ-loop
 returns c = c .before .before .before .loop .inv
@@ -24,7 +24,7 @@ loop-again : tie.Need-loop-again Inv-loop μ-loop
 loop-again c =
     let at = c .before .before .before in
     let a = at .before .before .args in
-    onward-block (a .rest .now) (a .from) (at .loop .i) (c .before .before .loop-test .taken) (at .loop .inv) (c .before .block-ends .ensures (c .if1 .left))
+    onward-more (a .rest .now) (at .loop .i) (c .before .before .loop-test .taken) (at .loop .inv) (c .before .block-ends .ensures (c .if1 .left))
 
 returns-2 : tie.Need-returns-2 Inv-loop μ-loop
 returns-2 c = c .before .loop .inv
