@@ -6,10 +6,12 @@ use answers::NOT_ALLOWED;
 use answers::OUT_OF_RANGE;
 use answers::Outcome;
 use answers::WRONG_AMOUNT;
+use patch::fields::BytePlace;
 use patch::fields::FoundPlace;
 use patch::fields::Parameter;
+use patch::fields::lies_between;
 ghost use mathlib.Core.Path.{_≡_};
-ghost use Prim.Native.Nat.{_<_, _≤_};
+ghost use Prim.Native.Nat.{_≤_};
 ghost use Rattle.answers.specs.Effect.{Gives, tested};
 ghost use Rattle.edits.specs.Edits.{extended, storedFor, valueRows, editRows, byteRows, busRows, applying, applyingBus};
 
@@ -35,16 +37,16 @@ fn stored_for(parameter: u8, v: u8) -> u8
     extend(v)
 }
 
-// The value of a remote edit at its parameter's place: 8, then 11. The callers below have the place from the table.
-fn test_value(place: usize, parameter: u8, value: u8) -> Outcome
-    requires { ⌜ place < 134 ⌝ }
-    ensures { λ r. ⌜ r ≡ tested (valueRows place parameter value) ⌝ }
+// The value of a remote edit at its parameter's place: 8, then 11.
+fn test_value(place: BytePlace, parameter: u8, value: u8) -> Outcome
+    ensures { λ r. ⌜ r ≡ tested (valueRows (place .0) parameter value) ⌝ }
 {
     if 127 < value {
         return answers::refused(NOT_ALLOWED, 0);
     }
+    let k = place.0 as usize;
     if !patch::fields::in_range(place, stored_for(parameter, value)) {
-        return answers::refused(OUT_OF_RANGE, place);
+        return answers::refused(OUT_OF_RANGE, k);
     }
     answers::done(0)
 }
@@ -55,28 +57,26 @@ pub fn test_edit(parameter: u8, value: u8) -> Outcome
 {
     let found = patch::fields::place_of(Parameter(parameter));
     match found {
-        FoundPlace::At(place) => {
-            let k = place.0 as usize;
-            test_value(k, parameter, value)
-        }
+        FoundPlace::At(place) => test_value(place, parameter, value),
         FoundPlace::Nothing => answers::refused(NOT_ALLOWED, 0),
     }
 }
 
-// The three bytes of a bus, the amount as it is stored: 11 with the lowest place, then 12 with the bus. Its caller has tested the bus.
+// The three bytes of a bus, the amount as it is stored: 11 with the lowest place, then 12 with the bus. Every bus has the same ranges.
+// Its caller has tested the bus.
 fn test_bytes(bus: u8, source: u8, amount: u8, destination: u8) -> Outcome
     requires { ⌜ bus ≤ 9 ⌝ }
     ensures { λ r. ⌜ r ≡ tested (byteRows bus source amount destination) ⌝ }
 {
     let b = bus as usize;
     let k = 104 + 3 * b;
-    if !patch::fields::in_range(k, source) {
+    if !lies_between(0, 20, source) {
         return answers::refused(OUT_OF_RANGE, k);
     }
-    if !patch::fields::in_range(k + 1, amount) {
+    if !lies_between(0xC0, 0x3F, amount) {
         return answers::refused(OUT_OF_RANGE, k + 1);
     }
-    if !patch::fields::in_range(k + 2, destination) {
+    if !lies_between(0, 31, destination) {
         return answers::refused(OUT_OF_RANGE, k + 2);
     }
     if patch::checks::half_used(source, destination) {
@@ -96,7 +96,7 @@ pub fn test_bus_edit(bus: u8, source: u8, amount: u8, destination: u8) -> Outcom
         return answers::refused(NOT_ALLOWED, 0);
     }
     let stored = extend(amount);
-    if !patch::fields::lies_between(0xC0, 0x3F, stored) {
+    if !lies_between(0xC0, 0x3F, stored) {
         return answers::refused(WRONG_AMOUNT, 0);
     }
     test_bytes(bus, source, stored, destination)
@@ -111,7 +111,7 @@ pub fn apply_edit(p: &mut [u8], parameter: u8, value: u8) -> Outcome
         return answers::refused(NOT_ALLOWED, 0);
     };
     let k = place.0 as usize;
-    let edit = test_value(k, parameter, value);
+    let edit = test_value(place, parameter, value);
     if edit.answer != DONE {
         return edit;
     }

@@ -3,7 +3,7 @@ use crate::columns::KINDS;
 use crate::columns::PLACES;
 use crate::columns::RANGES;
 ghost use mathlib.Core.Path.{_≡_};
-ghost use Prim.Native.Nat.{ℕ, _<_};
+ghost use Prim.Native.Nat.{ℕ};
 ghost use lib.ListN.{getD};
 ghost use Rattle.patch.specs.Fields.{fields, placeAt, parameterAt, leastAt, greatestAt, between, inRange, placeOf, parameterOf};
 ghost use Rattle.patch.specs.Columns.{foundPlace, foundParameter};
@@ -769,12 +769,15 @@ pub fn lies_between(least: u8, greatest: u8, b: u8) -> bool
     }
 }
 
-// A byte lies in the range of its field. The tests of an edit call it with a place of the table.
-pub fn in_range(place: usize, b: u8) -> bool
-    requires { ⌜ place < 134 ⌝ }
-    ensures { λ r. ⌜ r ≡ inRange place b ⌝ }
+// A byte lies in the range of its field. Past the table both bounds are 0.
+pub fn in_range(place: BytePlace, b: u8) -> bool
+    ensures { λ r. ⌜ r ≡ inRange (place .0) b ⌝ }
 {
-    let kind = (KINDS[place / 16] >> (4 * (place % 16))) % 16;
+    let k = place.0 as usize;
+    if 133 < k {
+        return lies_between(0, 0, b);
+    }
+    let kind = (KINDS[k / 16] >> (4 * (k % 16))) % 16;
     let range = RANGES[kind as usize];
     std::num::wrapping_sub_u8(b, (range % 256) as u8) <= (range / 256) as u8
 }

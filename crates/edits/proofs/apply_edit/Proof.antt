@@ -115,7 +115,7 @@ apply-edit-spec =
     (λ c κs. search needs)
     returns
     (λ c. search needs)
-    (λ c κs. inside c)
+    (λ c κs. search needs)
     returns-2
     (λ c κs. search needs)
     (λ c. search needs)

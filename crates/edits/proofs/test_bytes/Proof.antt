@@ -9,44 +9,50 @@ use borrow.Author.Tests.{not-true, not-false}
 use Rattle.patch.specs.Fields.{inRange}
 use Rattle.patch.specs.Patch.{outFrom}
 use Rattle.patch.proofs.Accepted.{three}
+use Rattle.patch.proofs.Buses.{source-range, amount-range, destination-range}
 use Rattle.edits.specs.Edits.{byteRows}
 use Rattle.edits.proofs.test_bytes.Statement.{statement}
 use Rattle.edits.proofs.test_bytes.Tie as tie
 
+-- What each test of a range answered is what the table says of the byte at its place.
+source-judged : (t : tie.After-lies-between) → inRange (104 + 3 * (t .before .args .bus)) (t .before .args .source) ≡ t .lies-between .result
+source-judged t = let s = t .before in source-range (s .args .bus) (s .pre) (s .args .source) ∙ sym (t .lies-between .ensures)
+
+amount-judged : (t : tie.After-lies-between2) → let k = t .before .before .before .args in inRange (104 + 3 * (k .bus) + 1) (k .amount) ≡ t .lies-between2 .result
+amount-judged t = let s = t .before .before .before in amount-range (s .args .bus) (s .pre) (s .args .amount) ∙ sym (t .lies-between2 .ensures)
+
+destination-judged : (t : tie.After-lies-between3) → let k = t .before .before .before .before .before .args in inRange (104 + 3 * (k .bus) + 2) (k .destination) ≡ t .lies-between3 .result
+destination-judged t =
+    let s = t .before .before .before .before .before in
+    destination-range (s .args .bus) (s .pre) (s .args .destination) ∙ sym (t .lies-between3 .ensures)
+
 source-in : (t : tie.Else1) → inRange (104 + 3 * (t .before .before .args .bus)) (t .before .before .args .source) ≡ true
-source-in t = sym (t .before .in-range .ensures) ∙ not-false _ (t .if1 .left)
+source-in t = source-judged (t .before) ∙ not-false _ (t .if1 .left)
 
-amount-in : (t : tie.Else2) → inRange (104 + 3 * (t .before .before .before .before .args .bus) + 1) (t .before .before .before .before .args .amount) ≡ true
-amount-in t = sym (t .before .in-range2 .ensures) ∙ not-false _ (t .if2 .left)
-
-abbrev lowest : tie.Else3 → ℕ
-lowest t = 104 + 3 * (t .before .before .before .before .before .before .args .bus)
-
-abbrev bytes : tie.Else3 → List ℕ
-bytes t = let k = t .before .before .before .before .before .before .args in k .source ∷ k .amount ∷ k .destination ∷ []
+amount-in : (t : tie.Else2) → let k = t .before .before .before .before .args in inRange (104 + 3 * (k .bus) + 1) (k .amount) ≡ true
+amount-in t = amount-judged (t .before) ∙ not-false _ (t .if2 .left)
 
 -- No place is out of range once the third has passed.
-none-out : (t : tie.Else3) → outFrom (lowest t) (bytes t) ≡ none
+none-out : (t : tie.Else3) → let k = t .before .before .before .before .before .before .args in
+    outFrom (104 + 3 * (k .bus)) (k .source ∷ k .amount ∷ k .destination ∷ []) ≡ none
 none-out t =
     let k = t .before .before .before .before .before .before .args in
-    let destination-in = sym (t .before .in-range3 .ensures) ∙ not-false _ (t .if3 .left) in
-    rw (three (lowest t) (k .source) (k .amount) (k .destination))
-    (simp (source-in (t .before .before .before .before), amount-in (t .before .before), destination-in))
+    rw (three (104 + 3 * (k .bus)) (k .source) (k .amount) (k .destination))
+    (simp (source-in (t .before .before .before .before), amount-in (t .before .before), destination-judged (t .before) ∙ not-false _ (t .if3 .left)))
 
 returns : tie.Need-returns
 unfolding byteRows
 returns c =
     let t = c .before in
     let k = t .before .before .args in
-    let out = sym (t .before .in-range .ensures) ∙ not-true _ (t .if1 .taken) in
-    simp (three (104 + 3 * (k .bus)) (k .source) (k .amount) (k .destination), out) (c .refused .ensures)
+    simp (three (104 + 3 * (k .bus)) (k .source) (k .amount) (k .destination), source-judged (t .before) ∙ not-true _ (t .if1 .taken)) (c .refused .ensures)
 
 returns-2 : tie.Need-returns-2
 unfolding byteRows
 returns-2 c =
     let t = c .before in
     let k = t .before .before .before .before .args in
-    let out = sym (t .before .in-range2 .ensures) ∙ not-true _ (t .if2 .taken) in
+    let out = amount-judged (t .before) ∙ not-true _ (t .if2 .taken) in
     simp (three (104 + 3 * (k .bus)) (k .source) (k .amount) (k .destination), source-in (t .before .before), out) (c .refused2 .ensures)
 
 returns-3 : tie.Need-returns-3
@@ -54,7 +60,7 @@ unfolding byteRows
 returns-3 c =
     let t = c .before in
     let k = t .before .before .before .before .before .before .args in
-    let out = sym (t .before .in-range3 .ensures) ∙ not-true _ (t .if3 .taken) in
+    let out = destination-judged (t .before) ∙ not-true _ (t .if3 .taken) in
     simp (three (104 + 3 * (k .bus)) (k .source) (k .amount) (k .destination), source-in (t .before .before .before .before), amount-in (t .before .before), out)
     (c .refused3 .ensures)
 
@@ -79,12 +85,10 @@ test-bytes-spec =
     (λ c κs. search needs)
     (λ c κs. search needs)
     returns
-    (λ c. search needs)
     (λ c κs. search needs)
     (λ c. search needs)
     (λ c κs. search needs)
     returns-2
-    (λ c. search needs)
     (λ c κs. search needs)
     (λ c. search needs)
     (λ c κs. search needs)

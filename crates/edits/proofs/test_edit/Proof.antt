@@ -1,31 +1,21 @@
 -- By what the lookup found: the tests of the value at its place, or 8.
-use mathlib.Core.Path.{_≡_, sym, ap, _∙_}
+use mathlib.Core.Path.{sym, ap, _∙_}
 use mathlib.Core.List.{List}
-use mathlib.Core.Option.{some}
-use native.Mathlib.Omega.{arith}
 use borrow.Author.Needs.{needs}
 use Rattle.answers.specs.Table.{Row}
 use Rattle.answers.specs.Effect.{tested}
 use Rattle.patch.specs.Fields.{placeOf}
 use Rattle.patch.proofs.Tests.{found-there, found-nowhere}
-use Rattle.patch.proofs.Rules.{found-place}
 use Rattle.edits.proofs.Tests.{rows-at, rows-nowhere}
 use Rattle.edits.proofs.test_edit.Statement.{statement}
 use Rattle.edits.proofs.test_edit.Tie as tie
 
--- The place that was found.
-abbrev at : (c : tie.After-struct-known) → placeOf (c .before .before .before .before .before .args .parameter) ≡ some (c .before .before .found .given .0 .0 .0)
-at c =
-    let f = c .before .before in
-    found-there (placeOf (f .before .before .before .args .parameter)) (f .before .before .place-of .result) (f .found .given .0 .0) (f .found .given .1) (f .before .before .place-of .ensures)
-
-test-value-requires : tie.Need-test-value-requires
-test-value-requires c κs = let s = found-place _ _ (at c) in omega arith
-
 returns : tie.Need-returns
 returns c =
-    let e = at (c .before) in
-    let k = c .before .before .before .before .before .before .args in
+    let f = c .before .before in
+    let k = f .before .before .before .args in
+    let l = f .before .before .place-of in
+    let e = found-there (placeOf (k .parameter)) (l .result) (f .found .given .0 .0) (f .found .given .1) (l .ensures) in
     c .test-value .ensures ∙ sym (ap (λ (rows : List Row). tested rows) (rows-at (k .parameter) (k .value) _ e))
 
 returns-2 : tie.Need-returns-2
@@ -41,8 +31,7 @@ test-edit-spec =
     (tie.spec
     (λ c κs. search needs)
     (λ c. search needs)
-    (λ c. search needs)
-    test-value-requires
+    (λ c κs. search needs)
     (λ c. search needs)
     (λ c κs. search needs)
     returns

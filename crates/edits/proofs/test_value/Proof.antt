@@ -12,20 +12,20 @@ unfolding valueRows
 returns c = simp (lt-ltb _ _ (c .before .if1 .taken)) (c .refused .ensures)
 
 -- What the range's test answered is what the definition says of the stored byte.
-judged : (i : tie.After-in-range) → let k = i .before .before .before .args in inRange (k .place) (storedFor (k .parameter) (k .value)) ≡ i .in-range .result
-judged i = ap (inRange (i .before .before .before .args .place)) (sym (i .before .stored-for .ensures)) ∙ sym (i .in-range .ensures)
+judged : (i : tie.After-in-range) → let k = i .before .before .before .before .args in inRange (k .place .0) (storedFor (k .parameter) (k .value)) ≡ i .in-range .result
+judged i = ap (inRange (i .before .before .before .before .args .place .0)) (sym (i .before .stored-for .ensures)) ∙ sym (i .in-range .ensures)
 
 returns-2 : tie.Need-returns-2
 unfolding valueRows
 returns-2 c =
     let i = c .before .before in
-    simp (le-ltb _ _ (i .before .before .if1 .left), judged i ∙ not-true _ (c .before .if2 .taken)) (c .refused2 .ensures)
+    simp (le-ltb _ _ (i .before .before .before .if1 .left), judged i ∙ not-true _ (c .before .if2 .taken)) (c .refused2 .ensures)
 
 returns-3 : tie.Need-returns-3
 unfolding valueRows
 returns-3 c =
     let i = c .before .before in
-    simp (le-ltb _ _ (i .before .before .if1 .left), judged i ∙ not-false _ (c .before .if2 .left)) (c .done .ensures)
+    simp (le-ltb _ _ (i .before .before .before .if1 .left), judged i ∙ not-false _ (c .before .if2 .left)) (c .done .ensures)
 
 pub test-value-spec : {M : Type 1} → statement M
 test-value-spec =
@@ -33,6 +33,7 @@ test-value-spec =
     (tie.spec
     (λ c κs. search needs)
     returns
+    (λ c. search needs)
     (λ c κs. search needs)
     (λ c κs. search needs)
     (λ c κs. search needs)
