@@ -8,23 +8,30 @@ use native.Mathlib.Omega.{arith}
 use lib.Dec.{ltb}
 use lib.ListN.{length, getD, drop}
 use borrow.Author.Count.{below-more}
-use borrow.Author.Tests.{ltb-true, ltb-false}
-use Rattle.patch.specs.Fields.{inRange}
+use borrow.Author.Tests.{ltb-true, ltb-false, le-leb}
+use Rattle.patch.specs.Fields.{leastAt, inRange}
 use Rattle.patch.specs.Patch.{outFrom, firstOut, halfUsed, halfFrom, firstHalf}
 use Rattle.patch.specs.Passes.{InRange}
+use Rattle.patch.proofs.Widths.{column, widthAt, in-range-columns}
 use Rattle.patch.proofs.Steps.{byte-in, bytes-done, bus-whole, buses-done}
 
 -- One byte more.
 pub in-range-more : (p : List ℕ) (i k : ℕ) → InRange i k p → inRange k (getD p k 0) ≡ true → InRange i (k + 1) p
 in-range-more p i k h e j l u = below-more (λ (n : ℕ). i ≤ n → inRange n (getD p n 0) ≡ true) k (λ n v m. h n m v) (λ m. e) j u l
 
--- Two passes, the second from where the first ends.
-pub in-range-join : (p : List ℕ) (i n m : ℕ) → InRange i n p → InRange n m p → InRange i m p
-in-range-join p i n m h g k l u = go (ltb k n) refl
+-- One byte more, by the columns: it is not further above its least value than its width.
+pub columns-more : (least width : List ℕ) → least ≡ column leastAt 134 0 → width ≡ column widthAt 134 0 → (p : List ℕ) (i k r : ℕ) → k < 134
+    → getD p k 0 < 256 → r < 256 → (r + getD least k 0) % 256 ≡ getD p k 0 → r ≤ getD width k 0 → InRange i k p → InRange i (k + 1) p
+columns-more least width el ew p i k r h hb hr e l q =
+    in-range-more p i k q (in-range-columns least width el ew k (getD p k 0) r h hb hr e ∙ le-leb r (getD width k 0) l)
+
+-- Two passes, the second from no later than where the first ends.
+pub in-range-join : (p : List ℕ) (i n m l : ℕ) → m ≤ n → InRange i n p → InRange m l p → InRange i l p
+in-range-join p i n m l s h g k a b = go (ltb k n) refl
   where
     go : (t : Bool) → ltb k n ≡ t → inRange k (getD p k 0) ≡ true
-    go true q = h k l (ltb-true k n q)
-    go false q = g k (ltb-false k n q) u
+    go true q = h k a (ltb-true k n q)
+    go false q = let after = ltb-false k n q in g k (omega arith) b
 
 out-none : (p : List ℕ) (n k : ℕ) → k + n ≡ length p → InRange k (length p) p → outFrom k (drop k p) ≡ none
 out-none p zero k e h = bytes-done p k (omega arith)

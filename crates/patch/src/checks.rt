@@ -51,7 +51,8 @@ fn name_in_range(p: &[u8]) -> bool
     out == 0
 }
 
-// The same of the bytes behind the name, sixteen at once: none is further above its least value than its width.
+// The same of the bytes behind the name, sixteen at once: none is further above its least value than its width. The last sixteen
+// begin before the others end, so that they are sixteen too.
 fn rest_in_range(p: &[u8]) -> bool
     requires { ⌜ length (now p) ≡ 134 ⌝ }
     ensures { λ r. ⌜ (r ≡ true → InRange 8 134 (now (p .entry))) ⌝ }
@@ -60,6 +61,15 @@ fn rest_in_range(p: &[u8]) -> bool
     let width = WIDTH;
     let mut out: u8 = 0;
     let mut i: usize = 8;
+    while i < 120 {
+        if width[i] < std::num::wrapping_sub_u8(p[i], least[i]) {
+            out = 1;
+            i += 1;
+        } else {
+            i += 1;
+        }
+    }
+    i = 118;
     while i < 134 {
         if width[i] < std::num::wrapping_sub_u8(p[i], least[i]) {
             out = 1;

@@ -16,7 +16,7 @@ returns-2 c =
     let start = c .before .before .before .before in
     let p = start .args .p .now in
     let name = c .before .before .name-in-range .ensures (not-false _ (c .before .if1 .left)) in
-    λ e. all-in p (start .pre) (in-range-join p 0 8 134 name (c .rest-in-range .ensures e))
+    λ e. all-in p (start .pre) (in-range-join p 0 8 8 134 (omega arith) name (c .rest-in-range .ensures e))
 
 pub all-in-range-spec : {M : Type 1} → statement M
 all-in-range-spec = tie.close (tie.spec (λ c κs. search needs) returns (λ c κs. search needs) returns-2)
