@@ -2,7 +2,6 @@
 use mathlib.Core.Path.{_≡_}
 use mathlib.Core.Bool.{cond}
 use mathlib.Core.List.{List, [], _∷_, _++_}
-use mathlib.Core.Option.{Option, none, some}
 use Prim.Native.Nat.{ℕ}
 use lib.Dec.{ltb}
 use lib.ListN.{length, drop}
@@ -70,8 +69,3 @@ withBank e old numbers = exported (e .result .answer) (bankNumbers (e .result)) 
 pub record Puts (results : List ℕ) (n : ℕ) (old new : List ℕ) (r : ℕ) : Type 0 where
   pub answer : r ≡ n
   pub numbers : new ≡ results ++ drop (length results) old
-
--- A place or a parameter as a byte, 255 where there is none.
-abbrev pub orNone : Option ℕ → ℕ
-orNone none = 255
-orNone (some n) = n

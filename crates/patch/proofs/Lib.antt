@@ -7,6 +7,6 @@ pub mod Accepted
 pub mod NameLaws
 pub mod Buses
 pub mod Widths
-pub mod RangeKinds
+pub mod Words
 pub mod Passes
 pub mod Places

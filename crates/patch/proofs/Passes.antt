@@ -12,7 +12,8 @@ use borrow.Author.Tests.{ltb-true, ltb-false, le-leb}
 use Rattle.patch.specs.Fields.{leastAt, inRange}
 use Rattle.patch.specs.Patch.{outFrom, firstOut, halfUsed, halfFrom, firstHalf}
 use Rattle.patch.specs.Passes.{InRange}
-use Rattle.patch.proofs.Widths.{column, widthAt, in-range-columns}
+use Rattle.patch.specs.Columns.{widthAt}
+use Rattle.patch.proofs.Widths.{column, in-range-columns}
 use Rattle.patch.proofs.Steps.{byte-in, bytes-done, bus-whole, buses-done}
 
 -- One byte more.

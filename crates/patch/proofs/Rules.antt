@@ -6,7 +6,7 @@ use mathlib.Core.Option.{Option, none, some}
 use Prim.Native.Nat.{ℕ, suc, _+_, _≤_, _<_, _%_}
 use native.Mathlib.Omega.{arith}
 use lib.Dec.{T, eqb, leb, ltb, eqb→eq, leb→le, ltb→lt, T-not}
-use lib.ListN.{length}
+use lib.ListN.{length, List·getD-eq-default}
 use borrow.Author.Tests.{lt-ltb, le-ltb, le-leb, lt-leb, ne-eqb, ltb-true, ltb-false, leb-true, leb-false}
 use Rattle.answers.specs.Lists.{All}
 use Rattle.patch.specs.Fields.{fields, placeAt, parameterAt, leastAt, greatestAt, between, inRange, searchFrom, placeOf, parameterOf}
@@ -62,6 +62,22 @@ bounds least greatest t =
 -- Each row's least and greatest value make a range, which accepts both.
 pub ranges : (k : ℕ) → k < 134 → Range (leastAt k) (greatestAt k)
 ranges k h = bounds (leastAt k) (greatestAt k) (at range-right 134 all-ranges k h)
+
+rows : length fields ≡ 536
+unfolding fields
+rows = refl
+
+-- Past the table there is nothing but 0.
+pub past : (k : ℕ) → 134 ≤ k → (leastAt k ≡ 0) × (greatestAt k ≡ 0)
+past k h = (List·getD-eq-default fields 0 (omega (arith, rows)), List·getD-eq-default fields 0 (omega (arith, rows)))
+
+-- So the bounds of every place are bytes.
+pub bounds-bytes : (k : ℕ) → (leastAt k < 256) × (greatestAt k < 256)
+bounds-bytes k = go (ltb k 134) refl
+  where
+    go : (t : Bool) → ltb k 134 ≡ t → (leastAt k < 256) × (greatestAt k < 256)
+    go true q = let r = ranges k (ltb-true k 134 q) in (r .least-byte, r .greatest-byte)
+    go false q = let z = past k (ltb-false k 134 q) in omega (arith, z .0, z .1)
 
 abbrev is-at : Option ℕ → ℕ → Bool
 is-at none k = false

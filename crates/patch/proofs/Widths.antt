@@ -10,7 +10,8 @@ use lib.Dec.{leb, ltb}
 use lib.ListN.{getD}
 use borrow.Author.Tests.{ltb-true, ltb-false, leb-true, leb-false, lt-ltb}
 use Rattle.patch.specs.Fields.{leastAt, greatestAt, between, inRange}
-use Rattle.patch.proofs.Rules.{ranges}
+use Rattle.patch.specs.Columns.{widthAt, rangeAt}
+use Rattle.patch.proofs.Rules.{past, bounds-bytes}
 
 -- What f gives at the n numbers from k on.
 unfoldable pub column : (ℕ → ℕ) → ℕ → ℕ → List ℕ
@@ -25,14 +26,6 @@ column-get f (suc n) k (suc j) h = let e : k + suc j ≡ suc k + j = omega arith
 
 pub column-at : (f : ℕ → ℕ) (n : ℕ) (l : List ℕ) → l ≡ column f n 0 → (j : ℕ) → j < n → getD l j 0 ≡ f j
 column-at f n l e j h = rw e (let z : 0 + j ≡ j = omega arith in rw z at (column-get f n 0 j h))
-
--- How far a place's values go above the least.
-abbrev pub widthAt : ℕ → ℕ
-widthAt k = (greatestAt k + (256 - leastAt k)) % 256
-
--- Both in one number.
-abbrev pub rangeAt : ℕ → ℕ
-rangeAt k = leastAt k + 256 * widthAt k
 
 between-width : (l g b r w : ℕ) → l < 256 → g < 256 → b < 256 → r < 256 → (r + l) % 256 ≡ b → w ≡ (g + (256 - l)) % 256 → between l g b ≡ leb r w
 unfolding between
@@ -58,11 +51,11 @@ between-width l g b r w hl hg hb hr er ew = go (leb l g) (ltb b l) (leb b g) (le
         let a = leb-false l g q₁ in let c = ltb-false b l q₂ in let d = leb-false r w q₄ in absurd (omega arith)
 
 -- A byte b of place k, by what is left of it above the least.
-pub in-range-width : (k b r : ℕ) → k < 134 → b < 256 → r < 256 → (r + leastAt k) % 256 ≡ b → inRange k b ≡ leb r (widthAt k)
+pub in-range-width : (k b r : ℕ) → b < 256 → r < 256 → (r + leastAt k) % 256 ≡ b → inRange k b ≡ leb r (widthAt k)
 unfolding inRange
-in-range-width k b r h hb hr e =
-    let bounds = ranges k h in
-    between-width (leastAt k) (greatestAt k) b r (widthAt k) (bounds .least-byte) (bounds .greatest-byte) hb hr e refl
+in-range-width k b r hb hr e =
+    let bounds = bounds-bytes k in
+    between-width (leastAt k) (greatestAt k) b r (widthAt k) (bounds .0) (bounds .1) hb hr e refl
 
 -- The same by the two columns.
 pub in-range-columns : (least width : List ℕ) → least ≡ column leastAt 134 0 → width ≡ column widthAt 134 0 → (k b r : ℕ) → k < 134 → b < 256
@@ -70,16 +63,20 @@ pub in-range-columns : (least width : List ℕ) → least ≡ column leastAt 134
 in-range-columns least width el ew k b r h hb hr e =
     let l = column-at leastAt 134 least el k h in
     let w = column-at widthAt 134 width ew k h in
-    rw w (in-range-width k b r h hb hr (rw l at e))
+    rw w (in-range-width k b r hb hr (rw l at e))
 
 -- The same by the two in one number.
-pub in-range-number : (k b r n : ℕ) → k < 134 → b < 256 → r < 256 → n ≡ rangeAt k → (r + n % 256) % 256 ≡ b → inRange k b ≡ leb r (n / 256)
-in-range-number k b r n h hb hr en e =
-    let small = ranges k h .least-byte in
+pub in-range-number : (k b r n : ℕ) → b < 256 → r < 256 → n ≡ rangeAt k → (r + n % 256) % 256 ≡ b → inRange k b ≡ leb r (n / 256)
+in-range-number k b r n hb hr en e =
+    let small = bounds-bytes k .0 in
     let low : n % 256 ≡ leastAt k = omega arith in
     let high : n / 256 ≡ widthAt k = omega arith in
-    rw high (in-range-width k b r h hb hr (rw low at e))
+    rw high (in-range-width k b r hb hr (rw low at e))
 
 -- Its upper part is a byte.
-pub number-high : (k n : ℕ) → k < 134 → n ≡ rangeAt k → n / 256 < 256
-number-high k n h en = let small = ranges k h .least-byte in omega arith
+pub number-high : (k n : ℕ) → n ≡ rangeAt k → n / 256 < 256
+number-high k n en = let small = bounds-bytes k .0 in omega arith
+
+-- Past the table it is 0.
+pub range-past : (k : ℕ) → 134 ≤ k → rangeAt k ≡ 0
+range-past k h = let z = past k h in rw (z .0, z .1)

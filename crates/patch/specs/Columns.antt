@@ -1,6 +1,8 @@
--- What the lookups answer, as the code's enums.
+-- What the lookups answer, as the code's enums, and what the small tables hold.
+use mathlib.Core.Path.{_≡_}
 use mathlib.Core.Option.{Option, none, some}
-use Prim.Native.Nat.{ℕ}
+use Prim.Native.Nat.{ℕ, _+_, _-_, _*_, _/_, _%_, _^_, _<_}
+use Rattle.patch.specs.Fields.{leastAt, greatestAt, placeOf}
 use Rattle.patch.specs.declared.fields.FoundPlace.{FoundPlace}
 use Rattle.patch.specs.declared.fields.FoundPlace.the-variants.{At, Nothing as no-place}
 use Rattle.patch.specs.declared.fields.FoundParameter.{FoundParameter}
@@ -19,3 +21,24 @@ foundParameter none = no-parameter
 abbrev pub foundAt : Option ℕ → Failed
 foundAt (some k) = failed-at k
 foundAt none = Nowhere
+
+-- How far a place's values go above the least: greatest minus least, modulo 256.
+abbrev pub widthAt : ℕ → ℕ
+widthAt k = (greatestAt k + (256 - leastAt k)) % 256
+
+-- Least value and width in one number.
+abbrev pub rangeAt : ℕ → ℕ
+rangeAt k = leastAt k + 256 * widthAt k
+
+-- A place or a parameter as a byte, 255 where there is none.
+abbrev pub orNone : Option ℕ → ℕ
+orNone none = 255
+orNone (some n) = n
+
+-- The place of a parameter as a byte.
+abbrev pub placeByte : ℕ → ℕ
+placeByte n = orNone (placeOf n)
+
+-- The number r holds n others of w bits each, the first lowest: those that f gives from k on.
+abbrev pub Holds : ℕ → (ℕ → ℕ) → ℕ → ℕ → ℕ → Type 0
+Holds w f n k r = (j : ℕ) → j < n → r / 2 ^ (w * j) % 2 ^ w ≡ f (k + j)

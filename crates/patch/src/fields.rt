@@ -1,7 +1,6 @@
 // The listing's columns: byte place, parameter number, least and greatest value.
-use crate::columns::KINDS;
-use crate::columns::PLACES;
-use crate::columns::RANGES;
+use crate::columns::eight_places;
+use crate::columns::four_ranges;
 ghost use mathlib.Core.Path.{_≡_};
 ghost use Prim.Native.Nat.{ℕ};
 ghost use lib.ListN.{getD};
@@ -726,15 +725,12 @@ pub fn greatest_of(place: BytePlace) -> u8
 pub fn place_of(parameter: Parameter) -> FoundPlace
     ensures { λ r. ⌜ r ≡ foundPlace (placeOf (parameter .0)) ⌝ }
 {
-    let n = parameter.0;
-    if 99 < n {
-        return FoundPlace::Nothing;
-    }
-    let k = PLACES[n as usize];
+    let n = parameter.0 as usize;
+    let k = (eight_places(n / 8) >> (8 * (n % 8))) % 256;
     if k == 255 {
         return FoundPlace::Nothing;
     }
-    FoundPlace::At(BytePlace(k))
+    FoundPlace::At(BytePlace(k as u8))
 }
 
 // The parameter of a place, by the table.
@@ -774,10 +770,6 @@ pub fn in_range(place: BytePlace, b: u8) -> bool
     ensures { λ r. ⌜ r ≡ inRange (place .0) b ⌝ }
 {
     let k = place.0 as usize;
-    if 133 < k {
-        return lies_between(0, 0, b);
-    }
-    let kind = (KINDS[k / 16] >> (4 * (k % 16))) % 16;
-    let range = RANGES[kind as usize];
+    let range = (four_ranges(k / 4) >> (16 * (k % 4))) % 65536;
     std::num::wrapping_sub_u8(b, (range % 256) as u8) <= (range / 256) as u8
 }

@@ -9,9 +9,9 @@ use borrow.Author.Needs.{needs}
 use borrow.Author.Tests.{le-leb, lt-leb}
 use Rattle.patch.specs.Fields.{fields, leastAt, inRange}
 use Rattle.patch.specs.Patch.{firstOut, outFrom}
-use Rattle.patch.specs.Columns.{foundAt}
+use Rattle.patch.specs.Columns.{widthAt, foundAt}
 use Rattle.patch.proofs.Steps.{byte-in, byte-out, bytes-done}
-use Rattle.patch.proofs.Widths.{column, widthAt, in-range-columns}
+use Rattle.patch.proofs.Widths.{column, in-range-columns}
 use Rattle.patch.proofs.checks.first_out.Statement.{statement}
 use Rattle.patch.proofs.checks.first_out.Tie as tie
 

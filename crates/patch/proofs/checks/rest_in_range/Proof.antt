@@ -8,7 +8,8 @@ use borrow.Author.Needs.{needs}
 use borrow.Author.Tests.{eqb-true}
 use Rattle.patch.specs.Fields.{fields, leastAt}
 use Rattle.patch.specs.Passes.{InRange}
-use Rattle.patch.proofs.Widths.{column, widthAt}
+use Rattle.patch.specs.Columns.{widthAt}
+use Rattle.patch.proofs.Widths.{column}
 use Rattle.patch.proofs.Passes.{columns-more, in-range-join}
 use Rattle.patch.proofs.checks.rest_in_range.Statement.{statement}
 use Rattle.patch.proofs.checks.rest_in_range.Tie as tie

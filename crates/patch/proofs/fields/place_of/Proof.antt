@@ -1,26 +1,39 @@
--- The numbers are the places that the table's search finds, 255 where it finds none.
-use mathlib.Core.Path.{refl, sym, ap}
+-- The part that is taken is the place that the table's search finds, 255 where it finds none.
+use mathlib.Core.Path.{_≡_, sym, ap, _∙_}
+use mathlib.Core.Option.{some}
+use Prim.Native.Nat.{ℕ, _+_, _*_, _/_, _%_, _^_}
 use native.Mathlib.Omega.{arith}
 use borrow.Author.Needs.{needs}
-use borrow.Author.Tests.{lt-ltb}
-use Rattle.patch.specs.Fields.{fields, placeOf, searchFrom}
-use Rattle.patch.specs.Columns.{foundPlace}
-use Rattle.patch.proofs.Widths.{column}
-use Rattle.patch.proofs.Places.{places-listed, listed-none, listed-some}
+use Rattle.patch.specs.Columns.{foundPlace, placeByte}
+use Rattle.patch.proofs.Places.{numbered-none, numbered-some}
 use Rattle.patch.proofs.fields.place_of.Statement.{statement}
 use Rattle.patch.proofs.fields.place_of.Tie as tie
 
+abbrev number : tie.After-eight-places → ℕ
+number p = p .before .before .args .parameter .0
+
+its-place : (p : tie.After-eight-places) → p .eight-places .result / 2 ^ (8 * (number p % 8)) % 256 ≡ placeByte (number p)
+its-place p =
+    let same : 8 * (number p / 8) + number p % 8 ≡ number p = omega arith in
+    p .eight-places .ensures (number p % 8) (omega arith) ∙ ap placeByte same
+
 returns : tie.Need-returns
-unfolding placeOf
-returns c = simp (lt-ltb _ _ (c .if1 .taken))
+returns c = let p = c .before in sym (ap foundPlace (numbered-none (number p) (sym (its-place p) ∙ c .if1 .taken)))
 
 returns-2 : tie.Need-returns-2
-unfolding places-listed column fields placeOf searchFrom
-returns-2 c = sym (ap foundPlace (listed-none _ refl (c .before .before .args .parameter .0) (omega arith) (c .if2 .taken)))
-
-returns-3 : tie.Need-returns-3
-unfolding places-listed column fields placeOf searchFrom
-returns-3 c = sym (ap foundPlace (listed-some _ refl (c .before .before .args .parameter .0) (omega arith) (c .if2 .left)))
+returns-2 c =
+    let p = c .before in
+    let found = numbered-some (number p) (λ e. c .if1 .left (its-place p ∙ e)) in
+    sym (ap foundPlace (found ∙ ap some (sym (its-place p))))
 
 pub place-of-spec : {M : Type 1} → statement M
-place-of-spec = tie.close (tie.spec returns (λ c. search needs) (λ c. search needs) returns-2 returns-3)
+place-of-spec =
+    tie.close
+    (tie.spec
+    (λ c. search needs)
+    (λ c κs. search needs)
+    (λ c. search needs)
+    (λ c. search needs)
+    returns
+    (λ c. search needs)
+    returns-2)
