@@ -58,12 +58,6 @@ fn skip_blocks(rest: &[u8]) -> usize
 pub fn find_start(rest: &[u8]) -> usize
     ensures { λ r. ⌜ r ≡ ahead (now (rest .entry)) ⌝ }
 {
-    // Dumps often stand end to end.
-    if 0 < rest.len() {
-        if rest[0] == 0xF0 {
-            return 0;
-        }
-    }
     let mut i: usize = skip_blocks(rest);
     while i < rest.len() {
         if rest[i] == 0xF0 {

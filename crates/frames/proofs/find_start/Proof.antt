@@ -17,20 +17,17 @@ abbrev μ-loop : tie.MeasureT-loop
 μ-loop rest i₀ i = length rest - i
 
 returns : tie.Need-returns Inv-loop μ-loop
-returns c = omega (arith, ahead-found (c .before .before .before .before .args .rest .now) 0 (c .before .before .if1 .taken) (c .if2 .taken))
-
-returns-2 : tie.Need-returns-2 Inv-loop μ-loop
-returns-2 c =
+returns c =
     let at = c .before .before .before in
-    omega (arith, ahead-found (at .before .before .before .before .args .rest .now) (at .loop .i) (c .before .before .loop-test .taken) (c .if3 .taken))
+    omega (arith, ahead-found (at .before .before .before .args .rest .now) (at .loop .i) (c .before .before .loop-test .taken) (c .if1 .taken))
 
 loop-again : tie.Need-loop-again Inv-loop μ-loop
 loop-again c =
     let at = c .before .before .before in
-    omega (arith, ahead-other (at .before .before .before .before .args .rest .now) (at .loop .i) (c .before .before .loop-test .taken) (c .if3 .left))
+    omega (arith, ahead-other (at .before .before .before .args .rest .now) (at .loop .i) (c .before .before .loop-test .taken) (c .if1 .left))
 
-returns-3 : tie.Need-returns-3 Inv-loop μ-loop
-returns-3 c = omega (arith, ahead-end (c .before .before .before .before .before .args .rest .now) (c .before .loop .i) (c .loop-test .left))
+returns-2 : tie.Need-returns-2 Inv-loop μ-loop
+returns-2 c = omega (arith, ahead-end (c .before .before .before .before .args .rest .now) (c .before .loop .i) (c .loop-test .left))
 
 pub find-start-spec : {M : Type 1} → statement M
 find-start-spec =
@@ -38,13 +35,11 @@ find-start-spec =
     (tie.spec
     Inv-loop
     μ-loop
-    (λ c. omega arith)
-    returns
     (λ c κs. search needs)
     (λ c. omega (arith, c .skip-blocks .ensures))
     (λ c. omega arith)
-    returns-2
+    returns
     (λ c. omega arith)
     (λ c. omega arith)
     loop-again
-    returns-3)
+    returns-2)
