@@ -11,6 +11,7 @@ use crate::kinds::{
 };
 use crate::nibbles::{first_wide, pack, sum};
 use crate::patch::{test, Patch};
+use crate::table::PATCH_LENGTH;
 
 /// What an accepted message holds.
 pub(crate) enum Record {
@@ -108,7 +109,8 @@ fn exact<const LENGTH: usize>(body: &[u8]) -> Result<&[u8; LENGTH], Refusal> {
 fn single_patch(body: &[u8; length::SINGLE_PATCH - ENVELOPE]) -> Result<Record, Refusal> {
     let &[number, ref data @ .., sum] = body;
     allow(number <= LAST_NUMBER)?;
-    let patch = packed(data, sum)?;
+    let mut patch = [0; PATCH_LENGTH];
+    pack_tested(data, sum, &mut patch)?;
     test(&patch)?;
     Ok(Record::SinglePatch { number, patch })
 }
@@ -116,7 +118,8 @@ fn single_patch(body: &[u8; length::SINGLE_PATCH - ENVELOPE]) -> Result<Record, 
 fn edit_buffer(body: &[u8; length::EDIT_BUFFER - ENVELOPE]) -> Result<Record, Refusal> {
     let &[zero, ref data @ .., sum] = body;
     allow(zero == 0)?;
-    let patch = packed(data, sum)?;
+    let mut patch = [0; PATCH_LENGTH];
+    pack_tested(data, sum, &mut patch)?;
     test(&patch)?;
     Ok(Record::EditBuffer { patch })
 }
@@ -124,7 +127,8 @@ fn edit_buffer(body: &[u8; length::EDIT_BUFFER - ENVELOPE]) -> Result<Record, Re
 fn master(body: &[u8; length::MASTER - ENVELOPE]) -> Result<Record, Refusal> {
     let &[version, ref data @ .., sum] = body;
     allow(version == VERSION)?;
-    let master = packed(data, sum)?;
+    let mut master = [0; MASTER_LENGTH];
+    pack_tested(data, sum, &mut master)?;
     Ok(Record::Master { master })
 }
 
@@ -145,14 +149,13 @@ fn allow(allowed: bool) -> Result<(), Refusal> {
 }
 
 /// Packs a dump's data: 9 with the first wide byte's index, then 10.
-fn packed<const BYTES: usize>(data: &[u8], received: u8) -> Result<[u8; BYTES], Refusal> {
+fn pack_tested(data: &[u8], received: u8, packed: &mut [u8]) -> Result<(), Refusal> {
     if let Some(index) = first_wide(data) {
         return Err(Refusal::at(WIDE_DATA, index));
     }
-    let mut packed = [0; BYTES];
-    pack(data, &mut packed);
-    if sum(&packed) != received {
+    pack(data, packed);
+    if sum(packed) != received {
         return Err(Refusal::plain(WRONG_SUM));
     }
-    Ok(packed)
+    Ok(())
 }
