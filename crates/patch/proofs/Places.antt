@@ -5,17 +5,17 @@ use Prim.Native.Nat.{ℕ, _<_}
 use native.Mathlib.Omega.{arith}
 use borrow.Author.Tests.{lt-ltb}
 use Rattle.patch.specs.Fields.{placeOf}
-use Rattle.patch.specs.Columns.{orNone, placeByte}
+use Rattle.patch.specs.Columns.{orNone, placeOrNone}
 use Rattle.patch.proofs.Rules.{found-place}
 
-pub numbered-none : (n : ℕ) → placeByte n ≡ 255 → placeOf n ≡ none
+pub numbered-none : (n : ℕ) → placeOrNone n ≡ 255 → placeOf n ≡ none
 numbered-none n e = go (placeOf n) refl e
   where
     go : (o : Option ℕ) → placeOf n ≡ o → orNone o ≡ 255 → placeOf n ≡ none
     go none q e = q
     go (some k) q e = let h = found-place n k q .high in absurd (omega arith)
 
-pub numbered-some : (n : ℕ) → (placeByte n ≡ 255 → ⊥) → placeOf n ≡ some (placeByte n)
+pub numbered-some : (n : ℕ) → (placeOrNone n ≡ 255 → ⊥) → placeOf n ≡ some (placeOrNone n)
 numbered-some n d = go (placeOf n) d
   where
     go : (o : Option ℕ) → (orNone o ≡ 255 → ⊥) → o ≡ some (orNone o)

@@ -36,8 +36,8 @@ orNone none = 255
 orNone (some n) = n
 
 -- The place of a parameter as a byte.
-abbrev pub placeByte : ℕ → ℕ
-placeByte n = orNone (placeOf n)
+abbrev pub placeOrNone : ℕ → ℕ
+placeOrNone n = orNone (placeOf n)
 
 -- The number r holds n others of w bits each, the first lowest: those that f gives from k on.
 abbrev pub Holds : ℕ → (ℕ → ℕ) → ℕ → ℕ → ℕ → Type 0

@@ -1,7 +1,7 @@
 // What the listing's columns give, by themselves: wherever a table is used it is laid out anew, so the tests use these small ones. For
 // a single look they are numbers behind a match, which is not laid out.
 ghost use Prim.Native.Nat.{_*_};
-ghost use Rattle.patch.specs.Columns.{rangeAt, placeByte, Holds};
+ghost use Rattle.patch.specs.Columns.{rangeAt, placeOrNone, Holds};
 
 // The least value of each of the 134 bytes.
 pub const LEAST: [u8; 134] = [
@@ -324,7 +324,7 @@ pub fn four_ranges(i: usize) -> u64
 
 // The places of the eight parameters from 8 * i on in one number; 255 where a parameter has none.
 pub fn eight_places(i: usize) -> u64
-    ensures { λ r. ⌜ Holds 8 placeByte 8 (8 * i) r ⌝ }
+    ensures { λ r. ⌜ Holds 8 placeOrNone 8 (8 * i) r ⌝ }
 {
     match i {
         0 => 0x0C0D0A570B195609,

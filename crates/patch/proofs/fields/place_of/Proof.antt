@@ -4,7 +4,7 @@ use mathlib.Core.Option.{some}
 use Prim.Native.Nat.{ℕ, _+_, _*_, _/_, _%_, _^_}
 use native.Mathlib.Omega.{arith}
 use borrow.Author.Needs.{needs}
-use Rattle.patch.specs.Columns.{foundPlace, placeByte}
+use Rattle.patch.specs.Columns.{foundPlace, placeOrNone}
 use Rattle.patch.proofs.Places.{numbered-none, numbered-some}
 use Rattle.patch.proofs.fields.place_of.Statement.{statement}
 use Rattle.patch.proofs.fields.place_of.Tie as tie
@@ -12,10 +12,10 @@ use Rattle.patch.proofs.fields.place_of.Tie as tie
 abbrev number : tie.After-eight-places → ℕ
 number p = p .before .before .args .parameter .0
 
-its-place : (p : tie.After-eight-places) → p .eight-places .result / 2 ^ (8 * (number p % 8)) % 256 ≡ placeByte (number p)
+its-place : (p : tie.After-eight-places) → p .eight-places .result / 2 ^ (8 * (number p % 8)) % 256 ≡ placeOrNone (number p)
 its-place p =
     let same : 8 * (number p / 8) + number p % 8 ≡ number p = omega arith in
-    p .eight-places .ensures (number p % 8) (omega arith) ∙ ap placeByte same
+    p .eight-places .ensures (number p % 8) (omega arith) ∙ ap placeOrNone same
 
 returns : tie.Need-returns
 returns c = let p = c .before in sym (ap foundPlace (numbered-none (number p) (sym (its-place p) ∙ c .if1 .taken)))
