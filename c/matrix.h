@@ -7,9 +7,10 @@
  * - A slice is a pointer to its first element and its length in elements. The pointer is never NULL,
  *   of an empty slice neither; size_t slices are aligned. No slice that a call may write overlaps
  *   another slice of the same call.
- * - Results are numbers at the start of `numbers`, in the order that the comment names. The answer is
- *   returned as well. Numbers behind the results keep their values. Where `numbers` is too short for
- *   them nothing at all is changed and MATRIX_NO_ROOM is returned.
+ * - A function with `numbers` puts its results at their start, in the order that the comment names,
+ *   and returns the answer as well. Numbers behind the results keep their values. Where `numbers` is
+ *   too short for them, MATRIX_NO_ROOM is returned before anything else is tested, and nothing at all
+ *   is changed.
  * - Where several refusals apply, the first in the order that the comment names is given. Details are
  *   0 where the comment names none.
  * - Refused: every byte lent keeps its value. Done: bytes behind the output keep theirs.
@@ -66,7 +67,10 @@ extern "C" {
 /* matrix_place_of and matrix_parameter_of where there is none. */
 #define MATRIX_NONE 255
 
-/* Finds the first message of the input `s` that starts at `place` or later.
+/* Finds the first message of the input `s` that starts at `place` or later. Real-time bytes, F8H to
+ * FFH, may stand anywhere inside a message: they are dropped before its bytes are looked at, counted
+ * or indexed, but start and end are places of the input with them. A message ends behind its F7H; one
+ * that is cut (2), at s_len; one that is interrupted (3), at the status byte that interrupts it.
  * Numbers: start, end, answer, detail.
  * Answers: 1 (start and end are then s_len; so for a place past the end), 2, 3, 4, 5, 6, 7, 8, 14, 9,
  * 10, 11, 12, in this order; 0 with the opcode as detail. The next walk goes on from the end. */

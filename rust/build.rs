@@ -1,7 +1,7 @@
 //! Links the static library `libexports.a`, which `rt staticlib exports` makes.
 //!
 //! It is looked for in `MATRIX_LIB_DIR`, else in `target/staticlib` of the repository. The packages
-//! beside this one, `compare` and `bench`, build with this script too.
+//! beside this one build with it too: `compare` itself, `bench` through `compare`.
 
 use std::env;
 use std::path::PathBuf;

@@ -1,5 +1,5 @@
 //! The jobs. Each is done once by the library and once by the second program's own routines, and
-//! both give a number made of all results.
+//! both give a number made of the answers and of bytes of what was written.
 
 use std::hint::black_box;
 

@@ -5,8 +5,9 @@
 //! For each job a line with the throughput of both, and a line `ratio NAME X`: the library's median
 //! time on the processor over plain Rust's. Both are built for release, for the same processor
 //! (x86-64 without extensions where nothing else is set). Both get the same input and buffers of the
-//! same length, which are touched before the first round and not cleared between calls. Every result
-//! is used, and both programs' results are held against each other before anything is timed.
+//! same length, which are touched before the first round and not cleared between calls. Answers and
+//! bytes of what was written are used, and both programs' results are held against each other before
+//! anything is timed.
 
 mod jobs;
 

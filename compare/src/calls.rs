@@ -1,6 +1,7 @@
 //! Inputs for each routine: good, damaged and hostile, with slices of every length around the
 //! needed one.
 
+use compare::A_CALL;
 use reference::streams::{self, inputs, Random};
 use reference::{reports, BANK_PATCHES, NAME_LENGTH, PATCH_LENGTH};
 
@@ -80,7 +81,7 @@ pub fn reports_from(random: &mut Random) -> Call {
     let (input, place) = stream(random);
     let length = match random.below(8) {
         0 => random.below(5),
-        1 => around(random, 256),
+        1 => around(random, 4 * A_CALL),
         2 => random.below(600),
         _ => random.below(64),
     };

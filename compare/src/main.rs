@@ -1,4 +1,4 @@
-//! Compares every routine of the library with the second program, byte for byte.
+//! Compares every exported routine of the library with the second program, byte for byte.
 //!
 //!     compare [COUNT] [SEED]     COUNT inputs for each routine (3,000), from SEED on (0)
 //!     compare long [MIB]         reports and growth on inputs of MIB mebibytes (64)

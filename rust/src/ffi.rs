@@ -8,7 +8,7 @@
 //! else of its arguments, and is proved to stay inside the slices for all of them.
 //!
 //! `numbers` takes the results, as many as the comment says. Where it is shorter nothing is changed
-//! and the answer is 13; where it is longer the rest is kept. Each function returns its answer.
+//! and the answer is 13; where it is longer the rest is kept. A function with `numbers` returns its answer.
 
 mod raw {
     unsafe extern "C" {

@@ -216,7 +216,7 @@ impl Found {
 /// The messages of a stream, accepted and refused, in their order.
 ///
 /// Bytes between messages are skipped, and real time inside them is dropped. Every F0H starts a
-/// message, so nothing in the stream is passed over in silence.
+/// message, so no message is passed over in silence.
 ///
 /// ```
 /// use matrix1000::{messages, Error, Kind};

@@ -7,7 +7,8 @@ use crate::{BusEdit, Edit, Error, Parameter};
 
 /// A patch: 134 packed bytes, every field in range and no bus half used.
 ///
-/// There is no other way to one than through the tests, so whoever holds a `Patch` holds a good one.
+/// There is no other way to one than through the tests, but for the default, which passes them: whoever
+/// holds a `Patch` holds a good one.
 ///
 /// ```
 /// use matrix1000::{Error, Parameter, Patch};

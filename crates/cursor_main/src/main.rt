@@ -1,11 +1,14 @@
-// Prints the reports of the messages on standard input, at most 4096 bytes, a line each: start, end, answer and detail; behind one
-// with answer 0, the four bytes that come with its record. Each is asked of the cursor crate, from the last end.
+// Prints the reports of the messages on standard input, a line each: start, end, answer and detail; behind one with answer 0, the four
+// bytes that come with its record. Each is asked of the cursor crate, from the last end.
 // Below it: answers, reading, cursor.
 use answers::DONE;
 use answers::NO_MESSAGE;
 use libc::STDIN_FILENO;
 use libc::STDOUT_FILENO;
 use reading::walking::Report;
+
+// Programs take at most this many bytes.
+const MOST: usize = 65536;
 
 // A number in decimal, and the text behind it.
 fn print(n: usize, behind: &[u8]) {
@@ -49,7 +52,11 @@ fn list(s: &[u8]) {
 }
 
 fn main() {
-    let mut input = io::buffer();
+    let mut input = [0u8; 65537];
     let n = io::read_full(STDIN_FILENO, &mut input);
+    if MOST < n {
+        io::write_all(STDOUT_FILENO, b"input too long\n");
+        return;
+    }
     list(&input[..n]);
 }

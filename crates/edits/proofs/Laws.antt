@@ -1,4 +1,4 @@
--- The two edits: done, one changes its own bytes to the extended values and no other, and the patch stays accepted; refused, it changes
+-- The two edits: done, one changes its own bytes to the values as stored and no other, and the patch stays accepted; refused, it changes
 -- nothing. Rows that pass give the place and the ranges; the laws of a stored byte give the rest.
 use mathlib.Core.Path.{_≡_, refl, ap, _∙_, subst}
 use mathlib.Core.Bool.{Bool, true, false, cond}
@@ -109,7 +109,7 @@ pub bus-done : (b s a d : ℕ) (p : List ℕ) → applyingBus b s a d p .result 
 unfolding applyingBus
 bus-done b s a d p e = answered-done (busRows b s a d) (withBus b s a d p) p (bus-refusals b s a d) e
 
--- A remote edit that is done: the byte at its parameter's place becomes the extended value, every other byte stays, and the patch
+-- A remote edit that is done: the byte at its parameter's place becomes the value as stored, every other byte stays, and the patch
 -- afterwards passes its tests.
 pub record EditDone (n v : ℕ) (p : List ℕ) : Type 0 where
   pub place : ℕ
@@ -161,7 +161,7 @@ edit-at n v k p q e =
       accepted = ap (λ (r : List ℕ). tested (patchRows r)) to ∙ one-stored p k (storedFor n v) quiet (sits .high) (value-inside k n v edit);
     }
 
--- A remote edit that is done changes its own field to the extended value and no other byte, and the patch stays accepted.
+-- A remote edit that is done changes its own field to the value as stored and no other byte, and the patch stays accepted.
 pub edit-own-field : (n v : ℕ) (p : List ℕ) → first (editRows n v ++ patchRows p) (done 0 [] []) ≡ done 0 [] [] → EditDone n v p
 edit-own-field n v p e = go (placeOf n) refl
   where

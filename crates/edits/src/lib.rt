@@ -102,8 +102,8 @@ pub fn test_bus_edit(bus: u8, source: u8, amount: u8, destination: u8) -> Outcom
     test_bytes(bus, source, stored, destination)
 }
 
-// Applies a remote edit to a lent patch: its own 8 and 11, then the patch's 7, 11 and 12. Done, the field's byte is the extended
-// value and every other byte keeps its value; refused, every byte does.
+// Applies a remote edit to a lent patch: its own 8 and 11, then the patch's 7, 11 and 12. Done, the field's byte is the value as
+// stored and every other byte keeps its value; refused, every byte does.
 pub fn apply_edit(p: &mut [u8], parameter: u8, value: u8) -> Outcome
     ensures { λ r. ⌜ Gives (applying parameter value (now (p .entry))) r (now (p .exit)) ⌝ }
 {

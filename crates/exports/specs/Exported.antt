@@ -48,14 +48,14 @@ outcomeNumbers r = r .answer ∷ r .detail ∷ []
 abbrev pub bankNumbers : BankOutcome → List ℕ
 bankNumbers r = r .answer ∷ r .detail ∷ r .place ∷ []
 
--- A routine that is lent no bytes: the walk, and the test of a patch.
+-- A routine that is lent no bytes to write: the walk, and the test of a patch.
 abbrev pub withReport : Report → List ℕ → Exported
 withReport r numbers = exported (r .answer) (reportNumbers r) [] [] numbers
 
 abbrev pub withOutcome : Outcome → List ℕ → Exported
 withOutcome r numbers = exported (r .answer) (outcomeNumbers r) [] [] numbers
 
--- A routine that is lent bytes.
+-- A routine that is lent bytes to write.
 abbrev pub withReading : stream.Reading → List ℕ → List ℕ → Exported
 withReading e old numbers = exported (e .answer) (readingNumbers (numbersOf e)) (e .lent) old numbers
 

@@ -1,6 +1,8 @@
-// Every public routine as a function for C and Rust to link, on numbers, byte slices and slices of numbers.
+// The library for C and Rust to link: walk, read, reports, test, lookups, names, both edits, all writers and the bank, each a function
+// on numbers, byte slices and slices of numbers.
 // A slice passes as a pointer and a length. Results that are more than one number go to the start of the lent `numbers`; where
-// these are too short for them the function answers 13 and changes nothing. Below it: all the other libraries.
+// these are too short for them the function answers 13, before any other test, and changes nothing. Below it: all the other libraries
+// but theorems and cursor.
 use answers::NO_ROOM;
 use answers::Outcome;
 use patch::fields::BytePlace;

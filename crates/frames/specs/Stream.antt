@@ -1,13 +1,13 @@
 -- Document 01, 'Finding a message': the walk, the reports of a stream, reading a record.
 -- What a complete message comes to, its real-time bytes dropped, is the parameter `judge`: the crate messages defines it.
-use mathlib.Core.Bool.{Bool, true, false, cond}
+use mathlib.Core.Bool.{cond}
 use mathlib.Core.List.{List, [], _∷_, _++_}
 use mathlib.Core.Option.{Option, none, some}
 use Prim.Native.Nat.{ℕ, zero, suc, _+_}
 use lib.Dec.{eqb, leb}
 use lib.ListN.{length, drop}
 use Rattle.answers.specs.Table.{Verdict, done, refused}
-use Rattle.frames.specs.Bytes.{kindOf, body, withoutRealTime, framed}
+use Rattle.frames.specs.Bytes.{body, withoutRealTime, framed}
 
 -- A report: where a message starts and ends, and what it comes to.
 pub record Report : Type 0 where

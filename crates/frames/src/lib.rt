@@ -6,9 +6,8 @@ use answers::INTERRUPTED;
 ghost use mathlib.Core.Path.{_≡_};
 ghost use mathlib.Core.Bool.{cond, false};
 ghost use lib.Dec.{eqb};
-ghost use mathlib.Core.List.{_++_};
-ghost use Prim.Native.Nat.{ℕ, _+_, _<_, _≤_};
-ghost use lib.ListN.{length, take, drop};
+ghost use Prim.Native.Nat.{_+_, _≤_};
+ghost use lib.ListN.{length};
 ghost use Rattle.frames.specs.Bytes.{withoutRealTime};
 ghost use Rattle.frames.specs.Extent.{ahead, startFrom, spanOf, Kept};
 ghost use Rattle.frames.specs.Blocks.{None, Ahead, Onward};
@@ -21,8 +20,8 @@ pub struct Span {
     pub ending: u8,
 }
 
-// Whether an F0H stands among the 16 bytes from `at` on: without a branch, so that they are seen at once. The caller below has seen
-// that there are 16.
+// `false` only where no F0H stands among the 16 bytes from `at` on: without a branch, so that they are seen at once. The caller below
+// has seen that there are 16.
 fn block_starts(bytes: &[u8], at: usize) -> bool
     requires { ⌜ at + 16 ≤ length (now bytes) ⌝ }
     ensures { λ r. ⌜ (r ≡ false → None (λ b. b ≡ 0xF0) at 16 (now (bytes .entry))) ⌝ }
@@ -40,7 +39,7 @@ fn block_starts(bytes: &[u8], at: usize) -> bool
     found == 1
 }
 
-// How many bytes the blocks of 16 at the start take that have no F0H.
+// How far blocks of 16 without an F0H reach from the start.
 fn skip_blocks(rest: &[u8]) -> usize
     ensures { λ r. ⌜ Ahead (now (rest .entry)) r ⌝ }
 {
@@ -88,8 +87,8 @@ fn ending(b: u8) -> u8
     INTERRUPTED
 }
 
-// Whether one of the 16 bytes from `at` on is above 7FH: put together bit by bit, they are above it too. The caller below has seen
-// that there are 16.
+// `false` only where none of the 16 bytes from `at` on is above 7FH: put together bit by bit, they would be above it too. The caller
+// below has seen that there are 16.
 fn block_ends(bytes: &[u8], at: usize) -> bool
     requires { ⌜ at + 16 ≤ length (now bytes) ⌝ }
     ensures { λ r. ⌜ (r ≡ false → None (λ b. 0x80 ≤ b) at 16 (now (bytes .entry))) ⌝ }
@@ -103,7 +102,7 @@ fn block_ends(bytes: &[u8], at: usize) -> bool
     0x7F < all
 }
 
-// How many bytes the blocks of 16 data bytes at the start take.
+// How far blocks of 16 data bytes reach from the start.
 fn skip_data(rest: &[u8]) -> usize
     ensures { λ r. ⌜ Onward (now (rest .entry)) r ⌝ }
 {

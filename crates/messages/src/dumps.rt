@@ -11,7 +11,7 @@ use answers::Outcome;
 use answers::WRONG_LENGTH;
 use answers::WRONG_SUM;
 ghost use mathlib.Core.Path.{_≡_};
-ghost use Prim.Native.Nat.{ℕ, _*_};
+ghost use Prim.Native.Nat.{_*_};
 ghost use lib.ListN.{length};
 ghost use Rattle.answers.specs.Effect.{tested};
 ghost use Rattle.frames.specs.Bytes.{framed};

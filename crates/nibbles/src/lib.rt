@@ -15,7 +15,7 @@ ghost use Rattle.nibbles.specs.Nibbles.{nibbles, pack, sum, firstWide, p
 ghost use Rattle.nibbles.specs.Wide.{foundWide};
 
 // Where the first data byte above 15 stands.
-pub enum Wide {
+enum Wide {
     At(usize),
     Nowhere,
 }
@@ -34,7 +34,7 @@ pub fn checksum(packed: &[u8]) -> u8
     total % 128
 }
 
-// Whether no data byte is above 15: without a branch, so that sixteen bytes are seen at once.
+// `true` only where no data byte is above 15: without a branch, so that sixteen bytes are seen at once.
 fn none_wide(sent: &[u8]) -> bool
     ensures { λ r. ⌜ (r ≡ true → firstWide (now (sent .entry)) ≡ none) ⌝ }
 {
@@ -53,7 +53,7 @@ fn none_wide(sent: &[u8]) -> bool
 }
 
 // The first data byte above 15.
-pub fn first_wide(sent: &[u8]) -> Wide
+fn first_wide(sent: &[u8]) -> Wide
     ensures { λ r. ⌜ r ≡ foundWide (firstWide (now (sent .entry))) ⌝ }
 {
     if none_wide(sent) {

@@ -1,4 +1,4 @@
--- What the lookups answer, as the code's enums, and what the small tables hold.
+-- What the lookups answer, as the code's enums, and what the columns hold.
 use mathlib.Core.Path.{_≡_}
 use mathlib.Core.Option.{Option, none, some}
 use Prim.Native.Nat.{ℕ, _+_, _-_, _*_, _/_, _%_, _^_, _<_}

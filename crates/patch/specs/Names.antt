@@ -1,10 +1,10 @@
 -- A patch's name: its bytes 0-7, and its text.
-use mathlib.Core.Bool.{Bool, true, false, cond, not, _||_}
+use mathlib.Core.Bool.{Bool, false, cond, not, _||_}
 use mathlib.Core.List.{List, [], _∷_, _++_, map}
 use Prim.Native.Nat.{ℕ, _+_, _-_}
 use lib.Dec.{eqb, ltb}
 use lib.ListN.{length, take, drop}
-use Rattle.answers.specs.Table.{Row, row, done, first}
+use Rattle.answers.specs.Table.{row, done, first}
 use Rattle.answers.specs.Effect.{Effect, changed, written}
 use Rattle.patch.specs.Patch.{fieldRows, patchRows}
 

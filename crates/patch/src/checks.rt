@@ -8,7 +8,6 @@ use answers::WRONG_LENGTH;
 ghost use mathlib.Core.Path.{_≡_};
 ghost use mathlib.Core.Bool.{true};
 ghost use mathlib.Core.Option.{none};
-ghost use Prim.Native.Nat.{ℕ, _+_, _*_, _<_};
 ghost use lib.ListN.{length};
 ghost use Rattle.answers.specs.Effect.{tested};
 ghost use Rattle.patch.specs.Patch.{firstOut, firstHalf, halfUsed, fieldRows, patchRows};
@@ -32,8 +31,8 @@ pub fn half_used(source: u8, destination: u8) -> bool
     }
 }
 
-// Whether the name's bytes, which go to 63, lie in their ranges: without a branch, so that they are seen at once. The callers of
-// this and of the passes below have tested the length.
+// `true` only where the name's bytes, which go to 63, lie in their ranges: without a branch, so that they are seen at once. The callers
+// of this and of the passes below have tested the length.
 fn name_in_range(p: &[u8]) -> bool
     requires { ⌜ length (now p) ≡ 134 ⌝ }
     ensures { λ r. ⌜ (r ≡ true → InRange 0 8 (now (p .entry))) ⌝ }
@@ -81,7 +80,7 @@ fn rest_in_range(p: &[u8]) -> bool
     out == 0
 }
 
-// Whether every byte lies in the range of its field.
+// `true` only where every byte lies in the range of its field.
 fn all_in_range(p: &[u8]) -> bool
     requires { ⌜ length (now p) ≡ 134 ⌝ }
     ensures { λ r. ⌜ (r ≡ true → firstOut (now (p .entry)) ≡ none) ⌝ }
@@ -112,8 +111,8 @@ fn first_out(p: &[u8]) -> Failed
     Failed::Nowhere
 }
 
-// Whether no bus is half used. Each of 28 bytes is seen with the second behind it, sixteen at once: every third is a source, with its
-// destination.
+// `true` only where no bus is half used. Each of 28 bytes is seen with the second behind it, many at once: every third is a source,
+// with its destination.
 fn buses_whole(p: &[u8]) -> bool
     requires { ⌜ length (now p) ≡ 134 ⌝ }
     ensures { λ r. ⌜ (r ≡ true → firstHalf (now (p .entry)) ≡ none) ⌝ }

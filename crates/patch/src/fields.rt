@@ -2,9 +2,8 @@
 use crate::columns::eight_places;
 use crate::columns::four_ranges;
 ghost use mathlib.Core.Path.{_≡_};
-ghost use Prim.Native.Nat.{ℕ};
 ghost use lib.ListN.{getD};
-ghost use Rattle.patch.specs.Fields.{fields, placeAt, parameterAt, leastAt, greatestAt, between, inRange, placeOf, parameterOf};
+ghost use Rattle.patch.specs.Fields.{fields, leastAt, greatestAt, between, inRange, placeOf, parameterOf};
 ghost use Rattle.patch.specs.Columns.{foundPlace, foundParameter};
 
 // The listing's first column: which of the 134 bytes.
@@ -721,7 +720,7 @@ pub fn greatest_of(place: BytePlace) -> u8
     entry(place.0 as usize * 4 + 3)
 }
 
-// The place of a parameter, by the table.
+// The place of a parameter, by the table's columns.
 pub fn place_of(parameter: Parameter) -> FoundPlace
     ensures { λ r. ⌜ r ≡ foundPlace (placeOf (parameter .0)) ⌝ }
 {

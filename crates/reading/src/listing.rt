@@ -3,7 +3,7 @@ use crate::walking::Report;
 use crate::walking::report_at;
 ghost use mathlib.Core.Path.{_≡_};
 ghost use mathlib.Core.List.{[], _∷_, _++_};
-ghost use Prim.Native.Nat.{ℕ, suc, _+_, _^_, _<_, _≤_};
+ghost use Prim.Native.Nat.{suc, _+_, _^_, _<_, _≤_};
 ghost use lib.ListN.{length, drop};
 ghost use Rattle.frames.specs.Scan.{outside, inside, scan};
 ghost use Rattle.messages.specs.Judge.{judge};

@@ -5,10 +5,10 @@ use frames::Span;
 use messages::judged::Judged;
 use messages::judging::judge_content;
 ghost use mathlib.Core.Path.{_≡_};
-ghost use Prim.Native.Nat.{ℕ, _+_, _^_, _<_, _≤_};
-ghost use lib.ListN.{length, drop};
+ghost use Prim.Native.Nat.{_+_, _^_, _<_};
+ghost use lib.ListN.{length};
 ghost use Rattle.frames.specs.Bytes.{framed, withoutRealTime, realTimeIn};
-ghost use Rattle.frames.specs.Extent.{startFrom, spanOf};
+ghost use Rattle.frames.specs.Extent.{spanOf};
 ghost use Rattle.frames.specs.Stream.{messageAt};
 ghost use Rattle.messages.specs.Judge.{judge};
 ghost use Rattle.messages.specs.Judged.{judged};
@@ -30,7 +30,7 @@ fn judge_body(body: &[u8], noise: usize) -> Judged
     if noise == 0 {
         return judge_content(body);
     }
-    // One byte more than the longest message has: a longer one shows as longer.
+    // One byte more than the longest message has between F0H and F7H: a longer one shows as longer.
     let mut room = [0u8; 350];
     let n = frames::drop_real_time(body, &mut room);
     if n < 350 {

@@ -1,6 +1,6 @@
 -- `block_starts` sets its flag at an F0H: where it stays clear, no byte passed is one.
 use mathlib.Core.Path.{_≡_}
-use Prim.Native.Nat.{ℕ, _≤_, _-_}
+use Prim.Native.Nat.{_≤_, _-_}
 use native.Mathlib.Omega.{arith}
 use Rattle.frames.specs.Blocks.{None}
 use Rattle.frames.proofs.Blocks.{flag-more, flag-clear}

@@ -1,6 +1,6 @@
 -- `find_end` counts the bytes of a message's body and the real time among them, behind the blocks of data bytes: what is left to count is
 -- the body from the index on.
-use mathlib.Core.Path.{_≡_, sym, ap, _∙_}
+use mathlib.Core.Path.{_≡_, ap, _∙_}
 use mathlib.Core.List.{List, []}
 use Prim.Native.Nat.{ℕ, _≤_, _+_, _-_}
 use native.Mathlib.Omega.{arith}

@@ -1,6 +1,5 @@
 -- `skip_blocks` passes block after block that has no F0H.
-use mathlib.Core.Path.{_≡_, refl}
-use Prim.Native.Nat.{_-_, _+_}
+use Prim.Native.Nat.{_-_}
 use native.Mathlib.Omega.{arith}
 use lib.ListN.{length}
 use Rattle.frames.specs.Blocks.{Ahead}

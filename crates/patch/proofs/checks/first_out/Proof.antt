@@ -3,11 +3,10 @@
 use mathlib.Core.Path.{_≡_, refl, _∙_, ap, sym}
 use Prim.Native.Nat.{_≤_, _<_, _-_}
 use native.Mathlib.Omega.{arith}
-use lib.Dec.{leb}
 use lib.ListN.{drop, getD}
 use borrow.Author.Needs.{needs}
 use borrow.Author.Tests.{le-leb, lt-leb}
-use Rattle.patch.specs.Fields.{fields, leastAt, inRange}
+use Rattle.patch.specs.Fields.{fields, leastAt}
 use Rattle.patch.specs.Patch.{firstOut, outFrom}
 use Rattle.patch.specs.Columns.{widthAt, foundAt}
 use Rattle.patch.proofs.Steps.{byte-in, byte-out, bytes-done}
