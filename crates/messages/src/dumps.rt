@@ -47,7 +47,7 @@ fn check_patch(sent: &[u8], sum: u8) -> Outcome
     if answer != DONE {
         return answers::refused(answer, d.detail);
     }
-    patch::checks::test_fields(&packed)
+    patch::checks::test(&packed)
 }
 
 // The byte behind the opcode, at most `top`, then the data and the fields: 8 to 12. The callers below have seen the length.

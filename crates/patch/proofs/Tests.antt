@@ -58,6 +58,10 @@ module _ (p : List ℕ) where
   pub patch-refusals : Refusals (patchRows p)
   patch-refusals = omega arith
 
+  -- Of 134 bytes only those of the fields say anything.
+  pub fields-tested : length p ≡ 134 → tested (patchRows p) ≡ tested (fieldRows p)
+  fields-tested l = rw (eq-eqb (length p) 134 l)
+
   -- Where those of the fields say nothing, each byte is in range and no bus half used; and the other way round.
   pub fields-pass : Silent (fieldRows p) → (firstOut p ≡ none) × (firstHalf p ≡ none)
   fields-pass a = (row-at-silent 11 (firstOut p) (a .0), row-at-silent 12 (firstHalf p) (a .1 .0))

@@ -155,7 +155,7 @@ fn first_half(p: &[u8]) -> Failed
 }
 
 // The fields of 134 bytes: 11, then 12. Its callers have tested the length.
-pub fn test_fields(p: &[u8]) -> Outcome
+pub(crate) fn test_fields(p: &[u8]) -> Outcome
     requires { ⌜ length (now p) ≡ 134 ⌝ }
     ensures { λ r. ⌜ r ≡ tested (fieldRows (now (p .entry))) ⌝ }
 {

@@ -80,7 +80,7 @@ pub fn write_patch(number: u8, p: &[u8], out: &mut [u8]) -> Outcome
     if 99 < number {
         return answers::refused(NOT_ALLOWED, 0);
     }
-    let fields = patch::checks::test_fields(p);
+    let fields = patch::checks::test(p);
     if fields.answer != DONE {
         return fields;
     }
@@ -165,7 +165,7 @@ fn test_bank(ps: &[u8]) -> BankOutcome
     while k < n {
         let from = k * PATCH;
         let to = from + PATCH;
-        let tested = patch::checks::test_fields(&ps[from..to]);
+        let tested = patch::checks::test(&ps[from..to]);
         if tested.answer != DONE {
             return BankOutcome {
                 answer: tested.answer,

@@ -4,11 +4,12 @@ use mathlib.Core.List.{List}
 use mathlib.Core.Option.{none}
 use Prim.Native.Nat.{ℕ, _+_, _-_, _*_, _/_, _≤_}
 use native.Mathlib.Omega.{arith}
-use lib.ListN.{length, take, drop}
+use lib.ListN.{length, take, drop, length-take, length-drop}
 use lib.Seq.{drop-drop}
 use Rattle.answers.specs.Effect.{tested}
 use Rattle.answers.specs.declared.Outcome.{Outcome}
 use Rattle.patch.specs.Patch.{fieldRows}
+use Rattle.patch.proofs.Tests.{fields-tested}
 use Rattle.writing.specs.Writing.{firstBad, bankOutcome, bankTested}
 use Rattle.writing.proofs.Laws.{bad-here, bad-next}
 use Rattle.writing.proofs.test_bank.Statement.{statement}
@@ -27,27 +28,29 @@ loop-holds c =
     (omega arith, rw whole)
 
 -- The bank, the number of the patch at hand, the bytes from it on, and how many patches are behind it.
-abbrev bank : tie.After-test-fields Inv-loop μ-loop → List ℕ
+abbrev bank : tie.After-test Inv-loop μ-loop → List ℕ
 bank t = t .before .before .before .before .before .args .ps .now
 
-abbrev at : tie.After-test-fields Inv-loop μ-loop → ℕ
+abbrev at : tie.After-test Inv-loop μ-loop → ℕ
 at t = t .before .before .before .loop .k
 
-abbrev left : tie.After-test-fields Inv-loop μ-loop → List ℕ
+abbrev left : tie.After-test Inv-loop μ-loop → List ℕ
 left t = drop (at t * 134) (bank t)
 
-abbrev behind : tie.After-test-fields Inv-loop μ-loop → ℕ
+abbrev behind : tie.After-test Inv-loop μ-loop → ℕ
 behind t = length (bank t) / 134 - (at t + 1)
 
 -- What the patch at hand was answered.
-answered : (t : tie.After-test-fields Inv-loop μ-loop) → t .test-fields .result ≡ tested (fieldRows (take 134 (left t)))
+answered : (t : tie.After-test Inv-loop μ-loop) → t .test .result ≡ tested (fieldRows (take 134 (left t)))
 answered t =
     let k = at t in
     let one : k * 134 + 134 - k * 134 ≡ 134 = omega arith in
-    rw one at (t .test-fields .ensures)
+    let room : length (take 134 (left t)) ≡ 134 =
+    omega (arith, length-take 134 (left t), length-drop (k * 134) (bank t), t .before .before .loop-test .taken) in
+    rw one at (t .test .ensures) ∙ fields-tested (take 134 (left t)) room
 
 -- The lowest bad patch stands here or behind.
-from-here : (t : tie.After-test-fields Inv-loop μ-loop) → firstBad (length (bank t) / 134) 0 (bank t) ≡ firstBad (behind t + 1) (at t) (left t)
+from-here : (t : tie.After-test Inv-loop μ-loop) → firstBad (length (bank t) / 134) 0 (bank t) ≡ firstBad (behind t + 1) (at t) (left t)
 from-here t =
     let known = t .before .before in
     let one : length (bank t) / 134 - at t ≡ behind t + 1 = omega (arith, known .loop-test .taken) in

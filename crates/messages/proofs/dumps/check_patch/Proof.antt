@@ -1,6 +1,7 @@
 -- `check_patch` tests the data and the sum, then the fields of the packed bytes.
 use mathlib.Core.Path.{_∙_}
 use borrow.Author.Needs.{needs}
+use Rattle.patch.proofs.Tests.{fields-tested}
 use Rattle.messages.proofs.Data.{patch-stopped, patch-fields}
 use Rattle.messages.proofs.dumps.check_patch.Statement.{statement}
 use Rattle.messages.proofs.dumps.check_patch.Tie as tie
@@ -15,7 +16,9 @@ returns-2 : tie.Need-returns-2
 returns-2 c =
     let at = c .before .before .before .before in
     let start = at .before .before .before in
-    c .test-fields .ensures ∙ patch-fields (start .args .sent .now) (start .args .sum) (at .check-data .last .1 .1 .0) (at .check-data .result) (at .check-data .ensures) (c .before .before .if1 .left)
+    let packed = at .check-data .last .1 .1 .0 in
+    c .test .ensures ∙ fields-tested packed (at .check-data .kept .1 .1 .0)
+    ∙ patch-fields (start .args .sent .now) (start .args .sum) packed (at .check-data .result) (at .check-data .ensures) (c .before .before .if1 .left)
 
 pub check-patch-spec : {M : Type 1} → statement M
 check-patch-spec =
