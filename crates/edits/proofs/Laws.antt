@@ -1,7 +1,7 @@
 -- The two edits: done, one changes its own bytes to the values as stored and no other, and the patch stays accepted; refused, it changes
 -- nothing. Rows that pass give the place and the ranges; the laws of a stored byte give the rest.
 use mathlib.Core.Path.{_≡_, refl, ap, _∙_, subst}
-use mathlib.Core.Bool.{Bool, true, false, cond}
+use mathlib.Core.Bool.{Bool, true, false}
 use mathlib.Core.List.{List, [], _∷_, _++_}
 use mathlib.Core.Option.{Option, none, some}
 use Prim.Native.Nat.{ℕ, suc, _+_, _*_, _≤_, _<_}
@@ -13,7 +13,7 @@ use borrow.Author.Tests.{lt-ltb, le-ltb, le-leb, ltb-true, ltb-false, eqb-true, 
 use Rattle.answers.specs.Table.{Row, done, refused, first}
 use Rattle.answers.specs.Effect.{Effect, outcome, changed, tested}
 use Rattle.answers.proofs.Lists.{all-append}
-use Rattle.answers.proofs.Rows.{Silent, Refusals, numberOf, first-passed, done-passed, silent-parts, first-number}
+use Rattle.answers.proofs.Rows.{Silent, Refusals, numberOf, first-passed, done-passed, silent-parts}
 use Rattle.answers.proofs.Effects.{changed-kept, changed-silent}
 use Rattle.patch.specs.Fields.{between, inRange, placeOf}
 use Rattle.patch.specs.Patch.{outFrom, firstOut, halfUsed, patchRows}
@@ -32,15 +32,6 @@ extended-low v h = simp (lt-ltb v 64 h)
 pub extended-high : (v : ℕ) → 64 ≤ v → extended v ≡ v + 128
 unfolding extended
 extended-high v h = simp (le-ltb v 64 h)
-
--- An extended value is a byte.
-pub extended-byte : (v : ℕ) → v ≤ 127 → extended v < 256
-unfolding extended
-extended-byte v h = go (ltb v 64)
-  where
-    go : (t : Bool) → cond t v (v + 128) < 256
-    go true = omega arith
-    go false = omega arith
 
 -- Parameter 21 stores a value as it is.
 pub stored-21 : (v : ℕ) → storedFor 21 v ≡ v
@@ -66,20 +57,6 @@ amount-inside a h = go (ltb a 64) refl
         let l = ltb-false a 64 q in
         let e = extended-high a l in
         rw e (simp (le-ltb (a + 128) 192 (omega arith), lt-ltb (a + 128) 256 (omega arith)))
-
--- A number that an edit refuses with: neither 0, which is done, nor 13, which is a buffer's.
-abbrev pub Refusal : ℕ → Type 0
-Refusal k = (k ≡ 0 → ⊥) × (k ≡ 13 → ⊥)
-
--- A refusal of a remote edit is neither 0 nor 13.
-pub edit-rows-numbers : (n v k d : ℕ) → first (editRows n v) (done 0 [] []) ≡ refused k d → Refusal k
-unfolding editRows
-edit-rows-numbers n v k d e = first-number Refusal (editRows n v) 0 [] [] k d (omega arith) e
-
--- Nor is one of a matrix modulation edit.
-pub bus-rows-numbers : (b s a d k m : ℕ) → first (busRows b s a d) (done 0 [] []) ≡ refused k m → Refusal k
-unfolding busRows
-bus-rows-numbers b s a d k m e = first-number Refusal (busRows b s a d) 0 [] [] k m (omega arith) e
 
 -- A remote edit that is answered otherwise than 0 leaves the patch as it was.
 pub edit-refused-keeps : (n v : ℕ) (p : List ℕ) → (applying n v p .result .answer ≡ 0 → ⊥) → applying n v p .lent ≡ p
