@@ -13,7 +13,7 @@ use reading::recording::Reading;
 use reading::walking::Report;
 use writing::BankOutcome;
 ghost use mathlib.Core.Path.{_≡_};
-ghost use mathlib.Core.List.{[]};
+ghost use mathlib.Core.List.{[], _∷_};
 ghost use Prim.Native.Nat.{_≤_};
 ghost use lib.ListN.{length};
 ghost use Rattle.answers.specs.Effect.{tested};
@@ -27,7 +27,8 @@ ghost use Rattle.patch.specs.Names.{naming, showing};
 ghost use Rattle.patch.specs.Patch.{patchRows};
 ghost use Rattle.reading.specs.Listed.{Fills};
 ghost use Rattle.reading.specs.Walk.{walked};
-ghost use Rattle.writing.specs.Writing.{writingPatch, writingBuffer, writingMaster, writingEdit, writingBus, writingBank};
+ghost use Rattle.messages.specs.Kinds.{singlePatch, masterParameters, editBuffer, remoteEdit, busEdit};
+ghost use Rattle.writing.specs.Writing.{writingDump, writingShort, writingBank};
 
 // A byte that no place and no parameter is.
 const NONE: u8 = 255;
@@ -217,7 +218,7 @@ pub extern "C" fn matrix_write_patch(
     out: &mut [u8],
     numbers: &mut [usize],
 ) -> u8
-    ensures { λ r. ⌜ Exports (withEffect (writingPatch number (now (p .entry)) (now (out .entry))) (now (out .entry)) (now (numbers .entry))) r (now (out .exit)) (now (numbers .exit)) ⌝ }
+    ensures { λ r. ⌜ Exports (withEffect (writingDump singlePatch number (now (p .entry)) (now (out .entry))) (now (out .entry)) (now (numbers .entry))) r (now (out .exit)) (now (numbers .exit)) ⌝ }
 {
     if numbers.len() < 2 {
         return NO_ROOM;
@@ -228,7 +229,7 @@ pub extern "C" fn matrix_write_patch(
 // Writes a patch to the edit buffer.
 #[no_mangle]
 pub extern "C" fn matrix_write_edit_buffer(p: &[u8], out: &mut [u8], numbers: &mut [usize]) -> u8
-    ensures { λ r. ⌜ Exports (withEffect (writingBuffer (now (p .entry)) (now (out .entry))) (now (out .entry)) (now (numbers .entry))) r (now (out .exit)) (now (numbers .exit)) ⌝ }
+    ensures { λ r. ⌜ Exports (withEffect (writingDump editBuffer 0 (now (p .entry)) (now (out .entry))) (now (out .entry)) (now (numbers .entry))) r (now (out .exit)) (now (numbers .exit)) ⌝ }
 {
     if numbers.len() < 2 {
         return NO_ROOM;
@@ -239,7 +240,7 @@ pub extern "C" fn matrix_write_edit_buffer(p: &[u8], out: &mut [u8], numbers: &m
 // Writes master parameters.
 #[no_mangle]
 pub extern "C" fn matrix_write_master(m: &[u8], out: &mut [u8], numbers: &mut [usize]) -> u8
-    ensures { λ r. ⌜ Exports (withEffect (writingMaster (now (m .entry)) (now (out .entry))) (now (out .entry)) (now (numbers .entry))) r (now (out .exit)) (now (numbers .exit)) ⌝ }
+    ensures { λ r. ⌜ Exports (withEffect (writingDump masterParameters 3 (now (m .entry)) (now (out .entry))) (now (out .entry)) (now (numbers .entry))) r (now (out .exit)) (now (numbers .exit)) ⌝ }
 {
     if numbers.len() < 2 {
         return NO_ROOM;
@@ -255,7 +256,7 @@ pub extern "C" fn matrix_write_edit(
     out: &mut [u8],
     numbers: &mut [usize],
 ) -> u8
-    ensures { λ r. ⌜ Exports (withEffect (writingEdit parameter value (now (out .entry))) (now (out .entry)) (now (numbers .entry))) r (now (out .exit)) (now (numbers .exit)) ⌝ }
+    ensures { λ r. ⌜ Exports (withEffect (writingShort remoteEdit (parameter ∷ value ∷ []) (now (out .entry))) (now (out .entry)) (now (numbers .entry))) r (now (out .exit)) (now (numbers .exit)) ⌝ }
 {
     if numbers.len() < 2 {
         return NO_ROOM;
@@ -273,7 +274,7 @@ pub extern "C" fn matrix_write_bus_edit(
     out: &mut [u8],
     numbers: &mut [usize],
 ) -> u8
-    ensures { λ r. ⌜ Exports (withEffect (writingBus bus source amount destination (now (out .entry))) (now (out .entry)) (now (numbers .entry))) r (now (out .exit)) (now (numbers .exit)) ⌝ }
+    ensures { λ r. ⌜ Exports (withEffect (writingShort busEdit (bus ∷ source ∷ amount ∷ destination ∷ []) (now (out .entry))) (now (out .entry)) (now (numbers .entry))) r (now (out .exit)) (now (numbers .exit)) ⌝ }
 {
     if numbers.len() < 2 {
         return NO_ROOM;

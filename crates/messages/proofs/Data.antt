@@ -1,6 +1,6 @@
 -- What packing a dump's data into a buffer that just fits it tells: 9, or the packed bytes.
 use mathlib.Core.Path.{_≡_, refl, sym, ap, _∙_}
-use mathlib.Core.List.{List, [], append-nil}
+use mathlib.Core.List.{List, [], _++_, append-nil}
 use mathlib.Core.Option.{Option, none, some}
 use Prim.Native.Nat.{ℕ, _*_, _/_, _%_, _≤_}
 use native.Mathlib.Omega.{arith}
@@ -11,8 +11,8 @@ use Rattle.answers.specs.declared.Outcome.{Outcome}
 use Rattle.nibbles.specs.Nibbles.{pack, sum, firstWide, packing}
 use Rattle.nibbles.proofs.Laws.{packing-wide, packing-done}
 use Rattle.answers.proofs.Rows.{Refusals, tested-stopped, tested-passed-on}
-use Rattle.patch.specs.Patch.{fieldRows}
-use Rattle.messages.specs.Judge.{dataRows, patchDataRows}
+use Rattle.messages.specs.Kinds.{Packed as PackedBytes}
+use Rattle.messages.specs.Judge.{dataRows, packedRows}
 use Rattle.messages.specs.Judged.{Checked}
 
 module _ (ns out after : List ℕ) (p : Outcome) (fits : length ns ≡ 2 * length out) (g : Gives (packing ns out) p after) where
@@ -81,20 +81,14 @@ pub data-refusals : (ns : List ℕ) (s : ℕ) → Refusals (dataRows ns s)
 unfolding dataRows
 data-refusals ns s = omega arith
 
-pub patch-data-refusals : (ns : List ℕ) (s : ℕ) → Refusals (patchDataRows ns s)
-unfolding dataRows patchDataRows
-patch-data-refusals ns s = omega arith
-
--- The test of a patch dump's data: stopped at the data and the sum, or left to the fields of the packed bytes.
-module _ (ns : List ℕ) (s : ℕ) (after : List ℕ) (d : Outcome) (k : Checked ns s after d) where
-  pub patch-stopped : (d .answer ≡ 0 → ⊥) → outcome (d .answer) (d .detail) ≡ tested (patchDataRows ns s)
-  unfolding patchDataRows
-  patch-stopped n =
+-- The test of a dump's data: stopped at the data and the sum, or left to the packed bytes.
+module _ (q : PackedBytes) (ns : List ℕ) (s : ℕ) (after : List ℕ) (d : Outcome) (k : Checked ns s after d) where
+  pub data-stopped : (d .answer ≡ 0 → ⊥) → outcome (d .answer) (d .detail) ≡ tested (dataRows ns s ++ packedRows q (pack ns))
+  data-stopped n =
       let e = k .outcome in
-      rw (tested-stopped (dataRows ns s) (fieldRows (pack ns)) (λ z. n (ap (λ (o : Outcome). o .answer) e ∙ z))) e
+      rw (tested-stopped (dataRows ns s) (packedRows q (pack ns)) (λ z. n (ap (λ (o : Outcome). o .answer) e ∙ z))) e
 
-  pub patch-fields : d .answer ≡ 0 → tested (fieldRows after) ≡ tested (patchDataRows ns s)
-  unfolding patchDataRows
-  patch-fields z =
+  pub data-left : d .answer ≡ 0 → tested (packedRows q after) ≡ tested (dataRows ns s ++ packedRows q (pack ns))
+  data-left z =
       let e = k .outcome in
-      rw (k .packed z, tested-passed-on (dataRows ns s) (fieldRows (pack ns)) (data-refusals ns s) (sym (ap (λ (o : Outcome). o .answer) e) ∙ z))
+      rw (k .packed z, tested-passed-on (dataRows ns s) (packedRows q (pack ns)) (data-refusals ns s) (sym (ap (λ (o : Outcome). o .answer) e) ∙ z))

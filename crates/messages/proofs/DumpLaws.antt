@@ -10,71 +10,19 @@ use lib.ListN.{length, length-append}
 use lib.Seq.{take-at, getD-at, getD-drop}
 use borrow.Author.Tests.{eq-eqb, ne-eqb}
 use Rattle.answers.specs.Lists.{All}
-use Rattle.answers.specs.Table.{Row, row, rowAt, done, refused, first, answerOf}
-use Rattle.answers.proofs.Rows.{Silent, Refusals, first-passed, zero-silent, row-at-silent, row-equal}
+use Rattle.answers.specs.Table.{Row, row, rowAt, Verdict, done, refused, first, answerOf}
+use Rattle.answers.proofs.Rows.{Silent, Refusals, first-passed, zero-silent, row-silent, row-at-silent, row-equal}
 use Rattle.nibbles.specs.Nibbles.{nibbles, pack, sum, firstWide}
 use Rattle.nibbles.proofs.Laws.{length-nibbles, pack-nibbles, nibbles-narrow, not-wide, wide-none}
 use Rattle.patch.specs.Patch.{fieldRows}
-use Rattle.messages.specs.Kinds.{kindOf}
-use Rattle.messages.specs.Judge.{dataOf, packedOf, sumOf, dataRows, patchDataRows, judge}
+use Rattle.messages.specs.Kinds.{Dump, ofDump, Filed, sizeOf}
+use Rattle.messages.specs.Judge.{dataOf, packedOf, sumOf, dataRows, misnumbered, numberIn, packedRows, dumpRows, judge}
 use Rattle.messages.specs.Layout.{messageOf, dump}
-
--- The kinds of dump: a numbered patch, a patch for the edit buffer, a master.
-pub data DumpKind : Type 0 where
-  ofPatch ofBuffer ofMaster : DumpKind
-
-abbrev pub opcodeOf : DumpKind → ℕ
-opcodeOf ofPatch = 0x01
-opcodeOf ofBuffer = 0x0D
-opcodeOf ofMaster = 0x03
-
--- How many packed bytes it has.
-abbrev pub sizeOf : DumpKind → ℕ
-sizeOf ofPatch = 134
-sizeOf ofBuffer = 134
-sizeOf ofMaster = 172
-
--- The test of the byte behind the opcode.
-abbrev pub misnumbered : DumpKind → ℕ → Bool
-misnumbered ofPatch n = ltb 99 n
-misnumbered ofBuffer n = ltb 0 n
-misnumbered ofMaster n = not (eqb n 3)
-
--- The tests of the packed bytes: a master has none.
-abbrev pub packedRows : DumpKind → List ℕ → List Row
-packedRows ofPatch p = fieldRows p
-packedRows ofBuffer p = fieldRows p
-packedRows ofMaster p = []
-
--- The bytes that come with the answer.
-abbrev pub bytesOf : DumpKind → ℕ → List ℕ
-bytesOf ofPatch n = n ∷ []
-bytesOf ofBuffer n = []
-bytesOf ofMaster n = []
-
--- The tests behind the length: the number, the data bytes d, the sum s.
-abbrev pub dumpRows : DumpKind → ℕ → List ℕ → ℕ → List Row
-dumpRows k n d s =
-    row 8 (misnumbered k n) ∷ rowAt 9 (firstWide d) ∷ row 10 (not (eqb s (sum (pack d)))) ∷ packedRows k (pack d)
-
-dump-judged : (k : DumpKind) (n : ℕ) (w : List ℕ) (m : List ℕ) → m ≡ messageOf (opcodeOf k) (n ∷ w)
-    → judge m ≡ first (row 7 (not (eqb (length m) (7 + 2 * sizeOf k))) ∷ dumpRows k n (dataOf (sizeOf k) m) (sumOf (sizeOf k) m)) (done (opcodeOf k) (bytesOf k n) (packedOf (sizeOf k) m))
-unfolding judge kindOf dataRows patchDataRows packedOf
-dump-judged ofPatch n w m e = rw e
-dump-judged ofBuffer n w m e = rw e
-dump-judged ofMaster n w m e = rw e
+use Rattle.messages.proofs.Numbers.{packed-refusals}
 
 -- The number of bytes of a message, the n and w behind its opcode.
 message-length : (op n : ℕ) (w : List ℕ) → length (messageOf op (n ∷ w)) ≡ 6 + length w
 message-length op n w = omega (arith, length-append w (0xF7 ∷ []))
-
--- A dump of another length is refused by 7.
-pub wrong-length : (k : DumpKind) (n : ℕ) (w : List ℕ) → (length w ≡ 1 + 2 * sizeOf k → ⊥) → judge (messageOf (opcodeOf k) (n ∷ w)) ≡ refused 7 0
-wrong-length k n w h =
-    rw (
-      dump-judged k n w (messageOf (opcodeOf k) (n ∷ w)) refl,
-      ne-eqb (length (messageOf (opcodeOf k) (n ∷ w))) (7 + 2 * sizeOf k) (λ e. h (omega (arith, message-length (opcodeOf k) n w))),
-    )
 
 data-of : (size op n : ℕ) (d : List ℕ) (s : ℕ) → length d ≡ 2 * size → dataOf size (messageOf op (n ∷ (d ++ (s ∷ [])))) ≡ d
 unfolding dataOf
@@ -86,42 +34,64 @@ sum-of size op n d s l =
     sym (getD-drop 5 (messageOf op (n ∷ (d ++ (s ∷ [])))) (2 * size) 0)
     ∙ rw (append-assoc d (s ∷ []) (0xF7 ∷ [])) (getD-at d s (0xF7 ∷ []) 0 (2 * size) l)
 
--- A dump of the right length, with the data bytes d and the sum s, is tested by its rows.
-pub dump-tested : (k : DumpKind) (n : ℕ) (d : List ℕ) (s : ℕ) → length d ≡ 2 * sizeOf k
-    → judge (messageOf (opcodeOf k) (n ∷ (d ++ (s ∷ [])))) ≡ first (dumpRows k n d s) (done (opcodeOf k) (bytesOf k n) (pack d))
-unfolding packedOf
-dump-tested k n d s l =
-    let m = messageOf (opcodeOf k) (n ∷ (d ++ (s ∷ []))) in
-    let right : length m ≡ 7 + 2 * sizeOf k = omega (arith, message-length (opcodeOf k) n (d ++ (s ∷ [])), length-append d (s ∷ [])) in
-    rw (dump-judged k n (d ++ (s ∷ [])) m refl, eq-eqb (length m) (7 + 2 * sizeOf k) right, data-of (sizeOf k) (opcodeOf k) n d s l, sum-of (sizeOf k) (opcodeOf k) n d s l)
+abbrev pub size : Dump → ℕ
+size k = sizeOf (k .packed)
 
--- A dump as our writer writes it, of bytes that pass its tests, is accepted with these bytes.
-pub dump-accepted : (k : DumpKind) (n : ℕ) (p : List ℕ) → misnumbered k n ≡ false → length p ≡ sizeOf k → All (λ b. b < 256) p → Silent (packedRows k p)
-    → judge (dump (opcodeOf k) n p) ≡ done (opcodeOf k) (bytesOf k n) p
-unfolding dump
-dump-accepted k n p number l bytes passed =
-    dump-tested k n (nibbles p) (sum p) (omega (arith, length-nibbles p))
-    ∙ rw (number, not-wide 0 (nibbles p) (nibbles-narrow p bytes), pack-nibbles p, eq-eqb (sum p) (sum p) refl)
-    (first-passed (packedRows k p) (done (opcodeOf k) (bytesOf k n) p) passed)
+-- The record of a dump with the byte n behind its opcode and the packed bytes p.
+abbrev pub dumpRecord : Dump → ℕ → List ℕ → Verdict
+dumpRecord k n p = done (k .opcode) (numberIn (k .behind) n) p
 
-dump-refusals : (k : DumpKind) (n : ℕ) (d : List ℕ) (s : ℕ) → Refusals (dumpRows k n d s)
-dump-refusals ofPatch n d s = omega arith
-dump-refusals ofBuffer n d s = omega arith
-dump-refusals ofMaster n d s = omega arith
+pub dump-refusals : (k : Dump) (n : ℕ) (d : List ℕ) (s : ℕ) → Refusals (dumpRows k n d s)
+unfolding dataRows
+dump-refusals k n d s = (omega arith, (omega arith, (omega arith, packed-refusals (k .packed) (pack d))))
 
 -- Nibbles for data bytes, their sum, and packed bytes that pass the tests.
-pub record Passed (k : DumpKind) (d : List ℕ) (s : ℕ) : Type 0 where
+pub record Passed (k : Dump) (n : ℕ) (d : List ℕ) (s : ℕ) : Type 0 where
+  pub number : misnumbered (k .behind) n ≡ false
   pub narrow : All (λ b. b < 16) d
   pub summed : s ≡ sum (pack d)
-  pub packed : Silent (packedRows k (pack d))
+  pub packed : Silent (packedRows (k .packed) (pack d))
 
--- A dump that is accepted has all of these.
-pub dump-passed : (k : DumpKind) (n : ℕ) (d : List ℕ) (s : ℕ) → length d ≡ 2 * sizeOf k
-    → answerOf (judge (messageOf (opcodeOf k) (n ∷ (d ++ (s ∷ []))))) ≡ 0 → Passed k d s
-dump-passed k n d s l e =
-    let q = zero-silent (dumpRows k n d s) (done (opcodeOf k) (bytesOf k n) (pack d)) (dump-refusals k n d s) (rw (dump-tested k n d s l) at e) in
-    record {
-      narrow = wide-none 0 d (row-at-silent 9 (firstWide d) (q .1 .0));
-      summed = row-equal 10 s (sum (pack d)) (q .1 .1 .0);
-      packed = q .1 .1 .1;
-    }
+pub rows-passed : (k : Dump) (n : ℕ) (d : List ℕ) (s : ℕ) → Silent (dumpRows k n d s) → Passed k n d s
+unfolding dataRows
+rows-passed k n d s q = record {
+  number = row-silent 8 (misnumbered (k .behind) n) (q .0);
+  narrow = wide-none 0 d (row-at-silent 9 (firstWide d) (q .1 .0));
+  summed = row-equal 10 s (sum (pack d)) (q .1 .1 .0);
+  packed = q .1 .1 .1;
+}
+
+module _ (k : Dump) (filed : Filed (ofDump k)) (n : ℕ) where
+  dump-judged : (w : List ℕ) (m : List ℕ) → m ≡ messageOf (k .opcode) (n ∷ w)
+      → judge m ≡ first (row 7 (not (eqb (length m) (7 + 2 * size k))) ∷ dumpRows k n (dataOf (size k) m) (sumOf (size k) m)) (dumpRecord k n (packedOf (size k) m))
+  unfolding judge
+  dump-judged w m e = rw (e, filed)
+
+  -- A dump of another length is refused by 7.
+  pub wrong-length : (w : List ℕ) → (length w ≡ 1 + 2 * size k → ⊥) → judge (messageOf (k .opcode) (n ∷ w)) ≡ refused 7 0
+  wrong-length w h =
+      let m = messageOf (k .opcode) (n ∷ w) in
+      rw (dump-judged w m refl, ne-eqb (length m) (7 + 2 * size k) (λ e. h (omega (arith, message-length (k .opcode) n w))))
+
+  -- A dump of the right length, with the data bytes d and the sum s, is tested by its rows.
+  pub dump-tested : (d : List ℕ) (s : ℕ) → length d ≡ 2 * size k
+      → judge (messageOf (k .opcode) (n ∷ (d ++ (s ∷ [])))) ≡ first (dumpRows k n d s) (dumpRecord k n (pack d))
+  unfolding packedOf
+  dump-tested d s l =
+      let m = messageOf (k .opcode) (n ∷ (d ++ (s ∷ []))) in
+      let right : length m ≡ 7 + 2 * size k = omega (arith, message-length (k .opcode) n (d ++ (s ∷ [])), length-append d (s ∷ [])) in
+      rw (dump-judged (d ++ (s ∷ [])) m refl, eq-eqb (length m) (7 + 2 * size k) right, data-of (size k) (k .opcode) n d s l, sum-of (size k) (k .opcode) n d s l)
+
+  -- A dump as our writer writes it, of bytes that pass its tests, is accepted with these bytes.
+  pub dump-accepted : (p : List ℕ) → misnumbered (k .behind) n ≡ false → length p ≡ size k → All (λ b. b < 256) p → Silent (packedRows (k .packed) p)
+      → judge (dump (k .opcode) n p) ≡ dumpRecord k n p
+  unfolding dump dataRows
+  dump-accepted p number l bytes passed =
+      dump-tested (nibbles p) (sum p) (omega (arith, length-nibbles p))
+      ∙ rw (number, not-wide 0 (nibbles p) (nibbles-narrow p bytes), pack-nibbles p, eq-eqb (sum p) (sum p) refl)
+      (first-passed (packedRows (k .packed) p) (dumpRecord k n p) passed)
+
+  -- A dump that is accepted has passed its tests.
+  pub dump-passed : (d : List ℕ) (s : ℕ) → length d ≡ 2 * size k → answerOf (judge (messageOf (k .opcode) (n ∷ (d ++ (s ∷ []))))) ≡ 0 → Passed k n d s
+  dump-passed d s l e =
+      rows-passed k n d s (zero-silent (dumpRows k n d s) (dumpRecord k n (pack d)) (dump-refusals k n d s) (rw (dump-tested d s l) at e))

@@ -1,3 +1,4 @@
+pub mod Filed
 pub mod Data
 pub mod Content
 pub mod Verdicts

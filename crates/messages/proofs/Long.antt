@@ -12,18 +12,10 @@ use Rattle.answers.specs.Table.{Row, row, Verdict, refused, first}
 use Rattle.frames.specs.Bytes.{framed}
 use Rattle.frames.specs.Extent.{Kept}
 use Rattle.frames.proofs.Kept.{kept-front}
-use Rattle.messages.specs.Kinds.{Kind, singlePatch, masterParameters, remoteEdit, busEdit, editBuffer, unknown, kindOf, lengthOf, isUnknown}
+use Rattle.messages.specs.Kinds.{kindOf, lengthOf, isUnknown}
 use Rattle.messages.specs.Judge.{byteAt, judge, kindRows, recordOf}
+use Rattle.messages.proofs.Filed.{longest}
 use Rattle.messages.proofs.Content.{framed-length, framed-byte}
-
--- No kind is longer than 351.
-longest : (k : Kind) → lengthOf k ≤ 351
-longest singlePatch = omega arith
-longest masterParameters = omega arith
-longest remoteEdit = omega arith
-longest busEdit = omega arith
-longest editBuffer = omega arith
-longest unknown = omega arith
 
 -- The rows up to 7 decide.
 by-head : (m : List ℕ) → 351 < length m
@@ -31,7 +23,7 @@ by-head : (m : List ℕ) → 351 < length m
 unfolding judge
 by-head m h =
     let k = kindOf (byteAt m 3) in
-    let n : length m ≡ lengthOf k → ⊥ = λ e. omega (arith, longest k) in
+    let n : length m ≡ lengthOf k → ⊥ = λ e. omega (arith, longest (byteAt m 3)) in
     rw (ne-eqb (length m) (lengthOf k) n) (by-tests (not (eqb (byteAt m 1) 0x10)) (not (eqb (byteAt m 2) 0x06)) (isUnknown k) (kindRows k m) (recordOf k m))
   where
     by-tests : (a b c : Bool) (rows : List Row) (v : Verdict) → first (row 4 a ∷ row 5 b ∷ row 6 c ∷ row 7 true ∷ rows) v ≡ first (row 4 a ∷ row 5 b ∷ row 6 c ∷ []) (refused 7 0)

@@ -1,6 +1,6 @@
 -- In a master dump one nibble replaced by another nibble is accepted exactly when it is a high one moved by 8.
 -- The sum notices every other change, and a master has no field test.
-use mathlib.Core.Path.{_≡_, sym, ap, _∙_}
+use mathlib.Core.Path.{_≡_, refl, sym, ap, _∙_}
 use mathlib.Core.List.{List, [], _∷_, _++_, append-assoc}
 use mathlib.Core.Logic.{_↔_, _⊎_, inl, inr, ⊎-elim}
 use Prim.Native.Nat.{ℕ, _+_, _*_, _/_, _%_, _<_}
@@ -13,14 +13,19 @@ use Rattle.answers.specs.Table.{answerOf}
 use Rattle.answers.proofs.Lists.{all-append, all-left, all-right, all-at}
 use Rattle.nibbles.specs.Nibbles.{nibbles, pack, total, sum}
 use Rattle.nibbles.proofs.Laws.{length-nibbles, nibbles-narrow, not-wide, total-append, pack-low, pack-high, low-changes-sum, high-changes-sum, Position, at-low, at-high, at-sum, position}
-use Rattle.messages.specs.Judge.{judge}
+use Rattle.messages.specs.Kinds.{masterParameters, ofDump, Filed, kindOf}
+use Rattle.messages.specs.Judge.{dataRows, judge}
 use Rattle.messages.specs.Layout.{messageOf}
-use Rattle.messages.proofs.DumpLaws.{ofMaster, dump-tested, dump-passed}
+use Rattle.messages.proofs.DumpLaws.{dump-tested, dump-passed}
 
 -- A sum does not notice a byte that moved by 128.
 same-sum : (p₁ p₂ : List ℕ) (b c : ℕ) → (c ≡ b + 128) ⊎ (b ≡ c + 128) → sum (p₁ ++ b ∷ p₂) ≡ sum (p₁ ++ c ∷ p₂)
 unfolding sum total
 same-sum p₁ p₂ b c m = rw (total-append p₁ (b ∷ p₂), total-append p₁ (c ∷ p₂)) (⊎-elim (λ h. omega arith) (λ h. omega arith) m)
+
+master-filed : Filed (ofDump masterParameters)
+unfolding kindOf
+master-filed = refl
 
 module _ (p : List ℕ) (l : length p ≡ 172) (bytes : All (λ b. b < 256) p) where
   -- A master with the data bytes d in the place of p's nibbles, but p's sum.
@@ -28,9 +33,10 @@ module _ (p : List ℕ) (l : length p ≡ 172) (bytes : All (λ b. b < 256) p) w
   sent d = messageOf 0x03 (3 ∷ (d ++ (sum p ∷ [])))
 
   accepted-exactly : (d : List ℕ) → length d ≡ 344 → All (λ b. b < 16) d → (answerOf (judge (sent d)) ≡ 0) ↔ (sum p ≡ sum (pack d))
+  unfolding dataRows
   accepted-exactly d long narrow = (
-    (λ e. dump-passed ofMaster 3 d (sum p) long e .summed),
-    (λ e. rw (dump-tested ofMaster 3 d (sum p) long, not-wide 0 d narrow, eq-eqb (sum p) (sum (pack d)) e)),
+    (λ e. dump-passed masterParameters master-filed 3 d (sum p) long e .summed),
+    (λ e. rw (dump-tested masterParameters master-filed 3 d (sum p) long, not-wide 0 d narrow, eq-eqb (sum p) (sum (pack d)) e)),
   )
 
   module _ (p₁ : List ℕ) (b : ℕ) (p₂ : List ℕ) (e₀ : p ≡ p₁ ++ b ∷ p₂) where

@@ -5,25 +5,44 @@ use mathlib.Core.List.{List}
 use Prim.Native.Nat.{ℕ, _≤_}
 use native.Mathlib.Omega.{arith}
 use Rattle.answers.specs.Lists.{All}
-use Rattle.answers.specs.Table.{Verdict, done, refused, answerOf}
+use Rattle.answers.specs.Table.{Row, Verdict, done, refused, answerOf}
 use Rattle.answers.proofs.Lists.{all-weaken}
 use Rattle.answers.proofs.Rows.{numberOf, Refusals, first-number, zero-silent, row-equal}
+use Rattle.nibbles.specs.Nibbles.{pack}
 use Rattle.edits.specs.Edits.{editRows, busRows}
-use Rattle.messages.specs.Kinds.{Kind, singlePatch, masterParameters, remoteEdit, busEdit, editBuffer, unknown, kindOf}
-use Rattle.messages.specs.Judge.{byteAt, dataRows, patchDataRows, kindRows, messageRows, recordOf, judge}
+use Rattle.messages.specs.Kinds.{Packed, aPatch, anyBytes, Change, edit, busChange, Kind, ofDump, ofShort, unknown, rowsOf, countOf, kindOf, sizeOf}
+use Rattle.messages.specs.Judge.{byteAt, dataOf, dataRows, packedRows, bytesFrom, kindRows, messageRows, recordOf, judge}
 
 -- The numbers of a refused message: 4 to 12, and 14.
 abbrev pub Listed : ℕ → Type 0
 Listed n = (4 ≤ n) × (n ≤ 14) × (n ≡ 13 → ⊥)
 
-kind-numbers : (k : Kind) (m : List ℕ) → All (λ r. Listed (numberOf r)) (kindRows k m)
-unfolding dataRows patchDataRows editRows busRows
-kind-numbers singlePatch m = omega arith
-kind-numbers masterParameters m = omega arith
-kind-numbers remoteEdit m = omega arith
-kind-numbers busEdit m = omega arith
-kind-numbers editBuffer m = omega arith
+-- The rows of a kind have listed numbers, whatever it tests.
+abbrev RowsListed : List Row → Type 0
+RowsListed rows = All (λ r. Listed (numberOf r)) rows
+
+packed-numbers : (q : Packed) (p : List ℕ) → RowsListed (packedRows q p)
+packed-numbers aPatch p = omega arith
+packed-numbers (anyBytes count) p = tt
+
+change-numbers : (c : Change) (b : List ℕ) → RowsListed (rowsOf c b)
+unfolding editRows busRows
+change-numbers edit b = omega arith
+change-numbers busChange b = omega arith
+
+kind-numbers : (k : Kind) (m : List ℕ) → RowsListed (kindRows k m)
+unfolding dataRows
+kind-numbers (ofDump k) m =
+    (omega arith, (omega arith, (omega arith, packed-numbers (k .packed) (pack (dataOf (sizeOf (k .packed)) m)))))
+kind-numbers (ofShort k) m = change-numbers (k .change) (bytesFrom (countOf (k .change)) 4 m)
 kind-numbers unknown m = tt
+
+-- The rows of packed bytes and of a short message are refusals.
+pub packed-refusals : (q : Packed) (p : List ℕ) → Refusals (packedRows q p)
+packed-refusals q p = all-weaken _ _ (λ r h z. omega arith) (packedRows q p) (packed-numbers q p)
+
+pub change-refusals : (c : Change) (b : List ℕ) → Refusals (rowsOf c b)
+change-refusals c b = all-weaken _ _ (λ r h z. omega arith) (rowsOf c b) (change-numbers c b)
 
 -- Every row of the table has a listed number.
 pub row-numbers : (m : List ℕ) → All (λ r. Listed (numberOf r)) (messageRows m)
@@ -35,11 +54,8 @@ pub data IsDone (v : Verdict) : Type 0 where
 
 -- A message's record is one.
 pub record-done : (k : Kind) (m : List ℕ) → IsDone (recordOf k m)
-record-done singlePatch m = made _ _ _ refl
-record-done masterParameters m = made _ _ _ refl
-record-done remoteEdit m = made _ _ _ refl
-record-done busEdit m = made _ _ _ refl
-record-done editBuffer m = made _ _ _ refl
+record-done (ofDump k) m = made _ _ _ refl
+record-done (ofShort k) m = made _ _ _ refl
 record-done unknown m = made _ _ _ refl
 
 -- A refused message has a listed number.

@@ -17,29 +17,19 @@ use Rattle.nibbles.specs.Nibbles.{nibbles, pack, sum}
 use Rattle.nibbles.proofs.Laws.{length-nibbles, pack-nibbles, pack-low, pack-high, low-changes-sum, high-changes-sum, Position, at-low, at-high, at-sum, position}
 use Rattle.patch.specs.Patch.{firstOut}
 use Rattle.patch.proofs.Rules.{fields-bytes, fields-apart}
-use Rattle.messages.specs.Judge.{judge}
+use Rattle.messages.specs.Kinds.{aPatch, Dump, ofDump, Filed, sizeOf}
+use Rattle.messages.specs.Judge.{packedRows, judge}
 use Rattle.messages.specs.Layout.{messageOf}
 use Rattle.messages.proofs.Numbers.{done-head}
-use Rattle.messages.proofs.DumpLaws.{DumpKind, ofPatch, ofBuffer, ofMaster, opcodeOf, sizeOf, packedRows, dump-passed}
+use Rattle.messages.proofs.DumpLaws.{size, dump-passed}
 
--- The dumps of a patch.
-abbrev pub IsPatch : DumpKind → Type 0
-IsPatch ofPatch = Unit {0}
-IsPatch ofBuffer = Unit {0}
-IsPatch ofMaster = ⊥
+module _ (k : Dump) (filed : Filed (ofDump k)) (patch : k .packed ≡ aPatch) (n : ℕ) (p : List ℕ) (l : length p ≡ 134) (ok : firstOut p ≡ none) where
+  patch-size : size k ≡ 134
+  patch-size = ap sizeOf patch
 
--- They have 134 packed bytes.
-pub patch-size : (k : DumpKind) → IsPatch k → sizeOf k ≡ 134
-patch-size ofPatch i = refl
-patch-size ofBuffer i = refl
-patch-size ofMaster i = absurd i
+  in-range : (q : List ℕ) → Silent (packedRows (k .packed) q) → firstOut q ≡ none
+  in-range q a = row-at-silent 11 (firstOut q) ((rw patch at a) .0)
 
-in-range : (k : DumpKind) → IsPatch k → (p : List ℕ) → Silent (packedRows k p) → firstOut p ≡ none
-in-range ofPatch i p a = row-at-silent 11 (firstOut p) (a .0)
-in-range ofBuffer i p a = row-at-silent 11 (firstOut p) (a .0)
-in-range ofMaster i p a = absurd i
-
-module _ (k : DumpKind) (patch : IsPatch k) (n : ℕ) (p : List ℕ) (l : length p ≡ 134) (ok : firstOut p ≡ none) where
   -- One byte b of the patch was sent by nibbles d that pack to c in its place: if the dump is accepted, its sum and its fields are those of c.
   record Moved (p₁ : List ℕ) (c : ℕ) (p₂ d : List ℕ) : Type 0 where
     narrow : All (λ b. b < 16) d
@@ -48,19 +38,19 @@ module _ (k : DumpKind) (patch : IsPatch k) (n : ℕ) (p : List ℕ) (l : length
 
   moved : (p₁ : List ℕ) (b c : ℕ) (p₂ : List ℕ) (x y : ℕ) → p ≡ p₁ ++ b ∷ p₂
       → pack (nibbles p₁ ++ (x ∷ y ∷ nibbles p₂)) ≡ p₁ ++ c ∷ p₂
-      → answerOf (judge (messageOf (opcodeOf k) (n ∷ (nibbles p₁ ++ (x ∷ y ∷ (nibbles p₂ ++ (sum p ∷ []))))))) ≡ 0
+      → answerOf (judge (messageOf (k .opcode) (n ∷ (nibbles p₁ ++ (x ∷ y ∷ (nibbles p₂ ++ (sum p ∷ []))))))) ≡ 0
       → Moved p₁ c p₂ (nibbles p₁ ++ (x ∷ y ∷ nibbles p₂))
   moved p₁ b c p₂ x y e₀ e₁ e =
       let d = nibbles p₁ ++ (x ∷ y ∷ nibbles p₂) in
-      let long : length d ≡ 2 * sizeOf k =
-      omega (arith, length-append (nibbles p₁) (x ∷ y ∷ nibbles p₂), length-nibbles p₁, length-nibbles p₂, length-append p₁ (b ∷ p₂), ap length e₀, patch-size k patch) in
-      let q = dump-passed k n d (sum p) long (rw (append-assoc (nibbles p₁) (x ∷ y ∷ nibbles p₂) (sum p ∷ [])) e) in
-      record { narrow = q .narrow; same-sum = rw e₁ at (q .summed); fits = in-range k patch (p₁ ++ c ∷ p₂) (rw e₁ at (q .packed)) }
+      let long : length d ≡ 2 * size k =
+      omega (arith, length-append (nibbles p₁) (x ∷ y ∷ nibbles p₂), length-nibbles p₁, length-nibbles p₂, length-append p₁ (b ∷ p₂), ap length e₀, patch-size) in
+      let q = dump-passed k filed n d (sum p) long (rw (append-assoc (nibbles p₁) (x ∷ y ∷ nibbles p₂) (sum p ∷ [])) e) in
+      record { narrow = q .narrow; same-sum = rw e₁ at (q .summed); fits = in-range (p₁ ++ c ∷ p₂) (rw e₁ at (q .packed)) }
 
   by-position : (u : List ℕ) (x : ℕ) (v : List ℕ) (y : ℕ) → Position p (sum p) u x v → (y ≡ x → ⊥)
-      → answerOf (judge (messageOf (opcodeOf k) (n ∷ (u ++ y ∷ v)))) ≡ 0 → ⊥
+      → answerOf (judge (messageOf (k .opcode) (n ∷ (u ++ y ∷ v)))) ≡ 0 → ⊥
   by-position u x v y (at-sum e₁ e₂ e₃) ne e =
-      let q = dump-passed k n (nibbles p) y (omega (arith, length-nibbles p, patch-size k patch)) (rw (e₁, e₃) at e) in
+      let q = dump-passed k filed n (nibbles p) y (omega (arith, length-nibbles p, patch-size)) (rw (e₁, e₃) at e) in
       ne (rw (pack-nibbles p) at (q .summed) ∙ sym e₂)
   by-position u x v y (at-low p₁ b p₂ e₀ e₁ e₂ e₃) ne e =
       let q = moved p₁ b (y + 16 * (b / 16)) p₂ y (b / 16) e₀ (pack-low p₁ p₂ b y) (rw (e₁, e₃) at e) in
@@ -78,7 +68,7 @@ module _ (k : DumpKind) (patch : IsPatch k) (n : ℕ) (p : List ℕ) (l : length
 
   -- The byte x of the nibbles and the sum replaced by another byte y: the dump is not accepted.
   pub replaced : (u : List ℕ) (x : ℕ) (v : List ℕ) (y : ℕ) → u ++ x ∷ v ≡ nibbles p ++ (sum p ∷ []) → (y ≡ x → ⊥)
-      → answerOf (judge (messageOf (opcodeOf k) (n ∷ (u ++ y ∷ v)))) ≡ 0 → ⊥
+      → answerOf (judge (messageOf (k .opcode) (n ∷ (u ++ y ∷ v)))) ≡ 0 → ⊥
   replaced u x v y e = by-position u x v y (position p (sum p) u x v e)
 
 no-tail : (u : List ℕ) (x : ℕ) (v : List ℕ) → u ++ x ∷ v ≡ [] → ⊥

@@ -2,12 +2,12 @@
 use mathlib.Core.Path.{_≡_, refl, sym, ap, _∙_}
 use mathlib.Core.Bool.{Bool, true, false, not}
 use mathlib.Core.List.{List, [], _∷_}
-use Prim.Native.Nat.{ℕ, _+_}
+use Prim.Native.Nat.{ℕ, _+_, _*_}
 use native.Mathlib.Omega.{arith}
-use lib.Dec.{eqb, ltb}
+use lib.Dec.{eqb}
 use lib.ListN.{length, take, drop, getD}
 use borrow.Author.Tests.{eq-eqb, ne-eqb}
-use Rattle.answers.specs.Table.{Row, row, refused, first}
+use Rattle.answers.specs.Table.{Row, row, done, refused, first}
 use Rattle.answers.specs.Effect.{tested}
 use Rattle.answers.specs.declared.Outcome.{Outcome}
 use Rattle.answers.proofs.Rows.{Refusals, first-passed, first-stopped}
@@ -16,10 +16,10 @@ use Rattle.frames.specs.Bytes.{framed}
 use Rattle.edits.specs.Edits.{editRows, busRows}
 use Rattle.edits.proofs.Tests.{edit-refusals, bus-refusals}
 use Rattle.messages.specs.declared.judged.Judged.{Judged}
-use Rattle.messages.specs.Kinds.{Kind, singlePatch, masterParameters, remoteEdit, busEdit, editBuffer, kindOf, lengthOf, isUnknown}
-use Rattle.messages.specs.Judge.{byteAt, dataOf, sumOf, patchDataRows, kindRows, recordOf, kindVerdict, opcodeVerdict, judge}
-use Rattle.messages.specs.Judged.{judged, judgedAs, numberedRows, masterRows}
-use Rattle.messages.proofs.Data.{data-refusals, patch-data-refusals}
+use Rattle.messages.specs.Kinds.{Behind, numberTo, always, Dump, editBy, busEditBy, Kind, ofDump, ofShort, kindOf, sizeOf, lengthOf, isUnknown}
+use Rattle.messages.specs.Judge.{byteAt, packedOf, dumpRows, numberIn, kindRows, recordOf, kindVerdict, opcodeVerdict, judge}
+use Rattle.messages.specs.Judged.{judged, judgedAs}
+use Rattle.messages.proofs.DumpLaws.{dump-refusals}
 use Rattle.messages.proofs.Content.{framed-length, framed-byte, framed-data, framed-sum}
 
 -- A content of another length than the kind's.
@@ -46,44 +46,32 @@ module _ {k : Kind} {c : List ℕ} {rows : List Row} {j : Judged} (i : Judging k
   pub kind-done : d .answer ≡ 0 → j ≡ judged (kindVerdict k (framed c))
   kind-done z = rw (whole, first-passed rows (recordOf k (framed c)) (passed rows d (i .refusals) t z)) (sym (i .accepts l))
 
--- Each of the five kinds.
-module _ (c : List ℕ) where
-  numbered-rows : (top : ℕ) → length c ≡ 273
-      → row 8 (ltb top (byteAt (framed c) 4)) ∷ patchDataRows (dataOf 134 (framed c)) (sumOf 134 (framed c)) ≡ numberedRows c top
-  unfolding numberedRows
-  numbered-rows top l = rw (framed-byte c 3 (omega arith), framed-data 134 c l, framed-sum 134 c l)
+-- What the code tests of a dump behind its length, from the content.
+abbrev pub contentRows : Dump → List ℕ → List Row
+contentRows k c = let size = sizeOf (k .packed) in dumpRows k (getD c 3 0) (take (2 * size) (drop 4 c)) (getD c (4 + 2 * size) 0)
 
-  numbered-refusals : (top : ℕ) → Refusals (numberedRows c top)
-  unfolding numberedRows
-  numbered-refusals top = (omega arith, patch-data-refusals (take 268 (drop 4 c)) (getD c 272 0))
+pub of-dump : (k : Dump) (c : List ℕ) → Judging (ofDump k) c (contentRows k c) (judgedAs 0 (k .opcode) (getD (numberIn (k .behind) (getD c 3 0)) 0 0) 0 0 0)
+of-dump k c = record {
+  tests = λ l. rw (framed-byte c 3 (omega arith), framed-data (sizeOf (k .packed)) c (omega arith), framed-sum (sizeOf (k .packed)) c (omega arith));
+  refusals = dump-refusals k (getD c 3 0) (take (2 * sizeOf (k .packed)) (drop 4 c)) (getD c (4 + 2 * sizeOf (k .packed)) 0);
+  accepts = λ l. rw (framed-byte c 3 (omega arith)) (go (k .behind));
+}
+  where
+    go : (b : Behind) → judged (done (k .opcode) (numberIn b (getD c 3 0)) (packedOf (sizeOf (k .packed)) (framed c))) ≡ judgedAs 0 (k .opcode) (getD (numberIn b (getD c 3 0)) 0 0) 0 0 0
+    go (numberTo greatest) = refl
+    go (always byte) = refl
 
-  pub single : Judging singlePatch c (numberedRows c 99) (judgedAs 0 0x01 (getD c 3 0) 0 0 0)
-  single = record {
-    tests = λ l. numbered-rows 99 (omega arith);
-    refusals = numbered-refusals 99;
-    accepts = λ l. rw (framed-byte c 3 (omega arith));
-  }
-
-  pub buffer : Judging editBuffer c (numberedRows c 0) (judgedAs 0 0x0D 0 0 0 0)
-  buffer = record { tests = λ l. numbered-rows 0 (omega arith); refusals = numbered-refusals 0; accepts = λ l. refl }
-
-  pub master : Judging masterParameters c (masterRows c) (judgedAs 0 0x03 0 0 0 0)
-  unfolding masterRows
-  master = record {
-    tests = λ l. rw (framed-byte c 3 (omega arith), framed-data 172 c (omega arith), framed-sum 172 c (omega arith));
-    refusals = (omega arith, data-refusals (take 344 (drop 4 c)) (getD c 348 0));
-    accepts = λ l. refl;
-  }
-
-  pub edit : Judging remoteEdit c (editRows (getD c 3 0) (getD c 4 0)) (judgedAs 0 0x06 (getD c 3 0) (getD c 4 0) 0 0)
-  edit = record {
+-- The two edits.
+module _ (op : ℕ) (c : List ℕ) where
+  pub of-edit : Judging (ofShort (editBy op)) c (editRows (getD c 3 0) (getD c 4 0)) (judgedAs 0 op (getD c 3 0) (getD c 4 0) 0 0)
+  of-edit = record {
     tests = λ l. rw (framed-byte c 3 (omega arith), framed-byte c 4 (omega arith));
     refusals = edit-refusals (getD c 3 0) (getD c 4 0);
     accepts = λ l. rw (framed-byte c 3 (omega arith), framed-byte c 4 (omega arith));
   }
 
-  pub bus : Judging busEdit c (busRows (getD c 3 0) (getD c 4 0) (getD c 5 0) (getD c 6 0)) (judgedAs 0 0x0B (getD c 3 0) (getD c 4 0) (getD c 5 0) (getD c 6 0))
-  bus = record {
+  pub of-bus : Judging (ofShort (busEditBy op)) c (busRows (getD c 3 0) (getD c 4 0) (getD c 5 0) (getD c 6 0)) (judgedAs 0 op (getD c 3 0) (getD c 4 0) (getD c 5 0) (getD c 6 0))
+  of-bus = record {
     tests = λ l. rw (framed-byte c 3 (omega arith), framed-byte c 4 (omega arith), framed-byte c 5 (omega arith), framed-byte c 6 (omega arith));
     refusals = bus-refusals (getD c 3 0) (getD c 4 0) (getD c 5 0) (getD c 6 0);
     accepts = λ l. rw (framed-byte c 3 (omega arith), framed-byte c 4 (omega arith), framed-byte c 5 (omega arith), framed-byte c 6 (omega arith));

@@ -1,14 +1,13 @@
 -- Document 01's table for a complete message without its real-time bytes: what it comes to.
-use mathlib.Core.Bool.{not}
+use mathlib.Core.Bool.{Bool, not}
 use mathlib.Core.List.{List, [], _∷_, _++_}
-use Prim.Native.Nat.{ℕ, _+_, _*_}
+use Prim.Native.Nat.{ℕ, zero, suc, _+_, _*_}
 use lib.Dec.{eqb, ltb}
 use lib.ListN.{length, take, drop, getD}
 use Rattle.answers.specs.Table.{Row, row, rowAt, Verdict, done, first}
 use Rattle.nibbles.specs.Nibbles.{pack, sum, firstWide}
 use Rattle.patch.specs.Patch.{fieldRows}
-use Rattle.edits.specs.Edits.{editRows, busRows}
-use Rattle.messages.specs.Kinds.{Kind, singlePatch, masterParameters, remoteEdit, busEdit, editBuffer, unknown, kindOf, lengthOf, isUnknown}
+use Rattle.messages.specs.Kinds.{Behind, numberTo, always, Packed, aPatch, anyBytes, Dump, Kind, ofDump, ofShort, unknown, rowsOf, countOf, kindOf, sizeOf, lengthOf, isUnknown}
 
 -- The byte at place i of a message, F0H at 0.
 abbrev pub byteAt : List ℕ → ℕ → ℕ
@@ -28,26 +27,46 @@ sumOf size m = byteAt m (5 + 2 * size)
 unfoldable pub dataRows : List ℕ → ℕ → List Row
 dataRows d s = rowAt 9 (firstWide d) ∷ row 10 (not (eqb s (sum (pack d)))) ∷ []
 
--- The same of a patch dump: 9, 10, 11, 12.
-unfoldable pub patchDataRows : List ℕ → ℕ → List Row
-patchDataRows d s = dataRows d s ++ fieldRows (pack d)
+-- The test of the byte behind a dump's opcode: 8.
+abbrev pub misnumbered : Behind → ℕ → Bool
+misnumbered (numberTo greatest) n = ltb greatest n
+misnumbered (always byte) n = not (eqb n byte)
 
--- The tests of each kind behind its length. A patch number is 0..99, the version 3, the byte behind 0DH zero.
+-- The bytes that come with a dump's answer: its number.
+abbrev pub numberIn : Behind → ℕ → List ℕ
+numberIn (numberTo greatest) n = n ∷ []
+numberIn (always byte) n = []
+
+-- The tests of a dump's packed bytes: 11 and 12 of a patch.
+abbrev pub packedRows : Packed → List ℕ → List Row
+packedRows aPatch p = fieldRows p
+packedRows (anyBytes count) p = []
+
+-- The same of lent bytes: 7 first.
+abbrev pub lentRows : Packed → List ℕ → List Row
+lentRows q p = row 7 (not (eqb (length p) (sizeOf q))) ∷ packedRows q p
+
+-- The tests of a dump behind its length: the byte n behind its opcode, the data bytes d, the sum s.
+abbrev pub dumpRows : Dump → ℕ → List ℕ → ℕ → List Row
+dumpRows k n d s = row 8 (misnumbered (k .behind) n) ∷ (dataRows d s ++ packedRows (k .packed) (pack d))
+
+-- So many bytes of a message from place i on.
+abbrev pub bytesFrom : ℕ → ℕ → List ℕ → List ℕ
+bytesFrom zero i m = []
+bytesFrom (suc n) i m = byteAt m i ∷ bytesFrom n (suc i) m
+
+-- The tests of each kind behind its length.
 abbrev pub kindRows : Kind → List ℕ → List Row
-kindRows singlePatch m = row 8 (ltb 99 (byteAt m 4)) ∷ patchDataRows (dataOf 134 m) (sumOf 134 m)
-kindRows masterParameters m = row 8 (not (eqb (byteAt m 4) 3)) ∷ dataRows (dataOf 172 m) (sumOf 172 m)
-kindRows remoteEdit m = editRows (byteAt m 4) (byteAt m 5)
-kindRows busEdit m = busRows (byteAt m 4) (byteAt m 5) (byteAt m 6) (byteAt m 7)
-kindRows editBuffer m = row 8 (ltb 0 (byteAt m 4)) ∷ patchDataRows (dataOf 134 m) (sumOf 134 m)
+kindRows (ofDump k) m =
+    let size = sizeOf (k .packed) in
+    dumpRows k (byteAt m 4) (dataOf size m) (sumOf size m)
+kindRows (ofShort k) m = rowsOf (k .change) (bytesFrom (countOf (k .change)) 4 m)
 kindRows unknown m = []
 
--- The record of a message that passes: opcode, the number or the edit's bytes as received, packed bytes.
+-- The record of a message that passes: opcode, the number or the bytes as received, packed bytes.
 abbrev pub recordOf : Kind → List ℕ → Verdict
-recordOf singlePatch m = done 0x01 (byteAt m 4 ∷ []) (packedOf 134 m)
-recordOf masterParameters m = done 0x03 [] (packedOf 172 m)
-recordOf remoteEdit m = done 0x06 (byteAt m 4 ∷ byteAt m 5 ∷ []) []
-recordOf busEdit m = done 0x0B (byteAt m 4 ∷ byteAt m 5 ∷ byteAt m 6 ∷ byteAt m 7 ∷ []) []
-recordOf editBuffer m = done 0x0D [] (packedOf 134 m)
+recordOf (ofDump k) m = done (k .opcode) (numberIn (k .behind) (byteAt m 4)) (packedOf (sizeOf (k .packed)) m)
+recordOf (ofShort k) m = done (k .opcode) (bytesFrom (countOf (k .change)) 4 m) []
 recordOf unknown m = done 0 [] []
 
 -- What a message of a known kind comes to: the rows from 7 on, else its record.

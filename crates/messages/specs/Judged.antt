@@ -1,16 +1,14 @@
 -- A verdict as the code answers it: plain numbers.
 use mathlib.Core.Path.{_≡_}
-use mathlib.Core.List.{List, _∷_}
-use mathlib.Core.Bool.{not}
-use Prim.Native.Nat.{ℕ}
-use lib.Dec.{eqb, ltb}
+use mathlib.Core.List.{List}
+use Prim.Native.Nat.{ℕ, _+_, _*_}
 use lib.ListN.{take, drop, getD}
-use Rattle.answers.specs.Table.{Row, row, Verdict, done, refused}
+use Rattle.answers.specs.Table.{Verdict, done, refused}
 use Rattle.answers.specs.Effect.{tested}
 use Rattle.answers.specs.declared.Outcome.{Outcome}
 use Rattle.nibbles.specs.Nibbles.{pack}
 use Rattle.messages.specs.declared.judged.Judged.{Judged}
-use Rattle.messages.specs.Judge.{dataRows, patchDataRows}
+use Rattle.messages.specs.Judge.{dataRows}
 
 abbrev pub judgedAs : ℕ → ℕ → ℕ → ℕ → ℕ → ℕ → Judged
 judgedAs a d b₁ b₂ b₃ b₄ = record { answer = a; detail = d; first = b₁; second = b₂; third = b₃; fourth = b₄ }
@@ -25,9 +23,9 @@ pub record Checked (d : List ℕ) (s : ℕ) (after : List ℕ) (r : Outcome) : T
   pub outcome : r ≡ tested (dataRows d s)
   pub packed : r .answer ≡ 0 → after ≡ pack d
 
--- The rows from 8 on of a patch dump whose byte behind the opcode is at most top, and of a master, from the content.
-unfoldable pub numberedRows : List ℕ → ℕ → List Row
-numberedRows c top = row 8 (ltb top (getD c 3 0)) ∷ patchDataRows (take 268 (drop 4 c)) (getD c 272 0)
+-- A dump's data bytes and its sum, from the content.
+abbrev pub sentIn : ℕ → List ℕ → List ℕ
+sentIn size c = take (2 * size) (drop 4 c)
 
-unfoldable pub masterRows : List ℕ → List Row
-masterRows c = row 8 (not (eqb (getD c 3 0) 3)) ∷ dataRows (take 344 (drop 4 c)) (getD c 348 0)
+abbrev pub sumIn : ℕ → List ℕ → ℕ
+sumIn size c = getD c (4 + 2 * size) 0

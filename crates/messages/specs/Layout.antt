@@ -3,6 +3,7 @@ use mathlib.Core.List.{List, [], _∷_, _++_}
 use Prim.Native.Nat.{ℕ}
 use Rattle.frames.specs.Bytes.{framed}
 use Rattle.nibbles.specs.Nibbles.{nibbles, sum}
+use Rattle.messages.specs.Kinds.{Short}
 
 -- F0H 10H 06H, the opcode, its bytes, F7H.
 abbrev pub messageOf : ℕ → List ℕ → List ℕ
@@ -12,8 +13,6 @@ messageOf opcode bytes = framed (0x10 ∷ 0x06 ∷ opcode ∷ bytes)
 unfoldable pub dump : ℕ → ℕ → List ℕ → List ℕ
 dump opcode number packed = messageOf opcode (number ∷ (nibbles packed ++ (sum packed ∷ [])))
 
-unfoldable pub editMessage : ℕ → ℕ → List ℕ
-editMessage parameter v = messageOf 0x06 (parameter ∷ v ∷ [])
-
-unfoldable pub busMessage : ℕ → ℕ → ℕ → ℕ → List ℕ
-busMessage bus source amount destination = messageOf 0x0B (bus ∷ source ∷ amount ∷ destination ∷ [])
+-- A short message: its bytes behind the opcode.
+abbrev pub shortMessage : Short → List ℕ → List ℕ
+shortMessage k bytes = messageOf (k .opcode) bytes

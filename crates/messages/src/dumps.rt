@@ -1,23 +1,26 @@
-// The three kinds of dump: patch, patch to the edit buffer, master.
+// A dump by its description.
 use crate::judged::Judged;
 use crate::judged::accepted;
 use crate::judged::refused;
-use crate::kinds::EditBuffer;
-use crate::kinds::MasterParameters;
-use crate::kinds::SinglePatch;
+use crate::kinds::Behind;
+use crate::kinds::Dump;
+use crate::kinds::Packed;
+use crate::kinds::size_of;
 use answers::DONE;
 use answers::NOT_ALLOWED;
 use answers::Outcome;
 use answers::WRONG_LENGTH;
 use answers::WRONG_SUM;
 ghost use mathlib.Core.Path.{_≡_};
-ghost use Prim.Native.Nat.{_*_};
-ghost use lib.ListN.{length};
+ghost use mathlib.Core.List.{_++_};
+ghost use Prim.Native.Nat.{_+_, _*_, _≤_};
+ghost use lib.ListN.{length, getD};
 ghost use Rattle.answers.specs.Effect.{tested};
 ghost use Rattle.frames.specs.Bytes.{framed};
-ghost use Rattle.messages.specs.Kinds.{singlePatch, masterParameters, editBuffer};
-ghost use Rattle.messages.specs.Judge.{kindVerdict, patchDataRows};
-ghost use Rattle.messages.specs.Judged.{judged, Checked, numberedRows, masterRows};
+ghost use Rattle.nibbles.specs.Nibbles.{pack};
+ghost use Rattle.messages.specs.Kinds.{aPatch, ofDump, sizeOf};
+ghost use Rattle.messages.specs.Judge.{kindVerdict, dataRows, packedRows, lentRows, misnumbered, numberIn};
+ghost use Rattle.messages.specs.Judged.{judged, Checked, sentIn, sumIn};
 
 // The data bytes of a dump and the sum behind them: 9, 10. The packed bytes are left in `packed`, which fits them.
 // The callers below have seen the length.
@@ -36,10 +39,25 @@ fn check_data(sent: &[u8], sum: u8, packed: &mut [u8]) -> Outcome
     answers::done(0)
 }
 
-// The data and the fields of a patch dump: 9, 10, 11, 12. The callers below have seen the length.
+// The tests of packed bytes themselves: 7 for another count of them, then a patch's 11 and 12.
+pub fn test_packed(packed: Packed, bytes: &[u8]) -> Outcome
+    ensures { λ r. ⌜ r ≡ tested (lentRows packed (now (bytes .entry))) ⌝ }
+{
+    match packed {
+        Packed::Patch => patch::checks::test(bytes),
+        Packed::AnyBytes(count) => {
+            if bytes.len() != count {
+                return answers::refused(WRONG_LENGTH, 0);
+            }
+            answers::done(0)
+        }
+    }
+}
+
+// The data of a patch, and its fields: 9 to 12. The caller below has seen the length.
 fn check_patch(sent: &[u8], sum: u8) -> Outcome
     requires { ⌜ length (now sent) ≡ 268 ⌝ }
-    ensures { λ r. ⌜ r ≡ tested (patchDataRows (now (sent .entry)) sum) ⌝ }
+    ensures { λ r. ⌜ r ≡ tested (dataRows (now (sent .entry)) sum ++ packedRows aPatch (pack (now (sent .entry)))) ⌝ }
 {
     let mut packed = [0u8; 134];
     let d = check_data(sent, sum, &mut packed);
@@ -50,70 +68,69 @@ fn check_patch(sent: &[u8], sum: u8) -> Outcome
     patch::checks::test(&packed)
 }
 
-// The byte behind the opcode, at most `top`, then the data and the fields: 8 to 12. The callers below have seen the length.
-fn check_numbered(content: &[u8], top: u8) -> Outcome
-    requires { ⌜ length (now content) ≡ 273 ⌝ }
-    ensures { λ r. ⌜ r ≡ tested (numberedRows (now (content .entry)) top) ⌝ }
+// The data of so many bytes of any value: 9, 10. The caller below has seen the length, and lends a room for the packed bytes.
+fn check_any(sent: &[u8], sum: u8, count: usize, room: &mut [u8]) -> Outcome
+    requires { ⌜ (length (now sent) ≡ 2 * count) × (count ≤ length (now room)) ⌝ }
+    ensures { λ r. ⌜ r ≡ tested (dataRows (now (sent .entry)) sum) ⌝ }
 {
-    if top < content[3] {
-        return answers::refused(NOT_ALLOWED, 0);
-    }
-    check_patch(&content[4..272], content[272])
+    check_data(sent, sum, &mut room[..count])
 }
 
-// A single patch: 7, then 8 to 12.
-pub(crate) fn judge_single(content: &[u8]) -> Judged
-    ensures { λ r. ⌜ r ≡ judged (kindVerdict singlePatch (framed (now (content .entry)))) ⌝ }
+// The data and the packed bytes of a dump: 9 to 12. The caller below has seen the length. A patch goes by numbers that the
+// compiler sees.
+fn check_packed(packed: Packed, content: &[u8]) -> Outcome
+    requires { ⌜ (length (now content) ≡ 5 + 2 * sizeOf packed) × (sizeOf packed ≤ 172) ⌝ }
+    ensures { λ r. ⌜ r ≡ tested (dataRows (sentIn (sizeOf packed) (now (content .entry))) (sumIn (sizeOf packed) (now (content .entry))) ++ packedRows packed (pack (sentIn (sizeOf packed) (now (content .entry))))) ⌝ }
 {
-    if content.len() + 2 != SinglePatch::LENGTH {
+    match packed {
+        Packed::Patch => check_patch(&content[4..272], content[272]),
+        Packed::AnyBytes(count) => {
+            let mut room = [0u8; 172];
+            let end = 4 + 2 * count;
+            check_any(&content[4..end], content[end], count, &mut room)
+        }
+    }
+}
+
+// The byte behind a dump's opcode does not pass.
+pub fn wrong_number(behind: Behind, byte: u8) -> bool
+    ensures { λ r. ⌜ r ≡ misnumbered behind byte ⌝ }
+{
+    match behind {
+        Behind::NumberTo(greatest) => greatest < byte,
+        Behind::Always(same) => byte != same,
+    }
+}
+
+// What comes with the answer: the number, or zero.
+fn number_of(behind: Behind, byte: u8) -> u8
+    ensures { λ r. ⌜ r ≡ getD (numberIn behind byte) 0 0 ⌝ }
+{
+    match behind {
+        Behind::NumberTo(_) => byte,
+        Behind::Always(_) => 0,
+    }
+}
+
+// A dump: 7, then 8 to 12. No kind has more than 172 packed bytes.
+pub(crate) fn judge_dump(kind: Dump, content: &[u8]) -> Judged
+    requires { ⌜ sizeOf (kind .packed) ≤ 172 ⌝ }
+    ensures { λ r. ⌜ r ≡ judged (kindVerdict (ofDump kind) (framed (now (content .entry)))) ⌝ }
+{
+    let packed = kind.packed;
+    let size = size_of(packed);
+    if content.len() != 5 + 2 * size {
         return refused(WRONG_LENGTH, 0);
     }
-    let t = check_numbered(content, 99);
+    let behind = kind.behind;
+    let number = content[3];
+    if wrong_number(behind, number) {
+        return refused(NOT_ALLOWED, 0);
+    }
+    let t = check_packed(packed, content);
     let answer = t.answer;
     if answer != DONE {
         return refused(answer, t.detail);
     }
-    accepted(SinglePatch::OPCODE, content[3], 0, 0, 0)
-}
-
-// A patch for the edit buffer: 7, then 8 to 12.
-pub(crate) fn judge_buffer(content: &[u8]) -> Judged
-    ensures { λ r. ⌜ r ≡ judged (kindVerdict editBuffer (framed (now (content .entry)))) ⌝ }
-{
-    if content.len() + 2 != EditBuffer::LENGTH {
-        return refused(WRONG_LENGTH, 0);
-    }
-    let t = check_numbered(content, 0);
-    let answer = t.answer;
-    if answer != DONE {
-        return refused(answer, t.detail);
-    }
-    accepted(EditBuffer::OPCODE, 0, 0, 0, 0)
-}
-
-// The version and the data of a master: 8 to 10. The caller below has seen the length.
-fn check_master(content: &[u8]) -> Outcome
-    requires { ⌜ length (now content) ≡ 349 ⌝ }
-    ensures { λ r. ⌜ r ≡ tested (masterRows (now (content .entry))) ⌝ }
-{
-    if content[3] != 3 {
-        return answers::refused(NOT_ALLOWED, 0);
-    }
-    let mut packed = [0u8; 172];
-    check_data(&content[4..348], content[348], &mut packed)
-}
-
-// A master: 7, then 8 to 10. It has no field test.
-pub(crate) fn judge_master(content: &[u8]) -> Judged
-    ensures { λ r. ⌜ r ≡ judged (kindVerdict masterParameters (framed (now (content .entry)))) ⌝ }
-{
-    if content.len() + 2 != MasterParameters::LENGTH {
-        return refused(WRONG_LENGTH, 0);
-    }
-    let t = check_master(content);
-    let answer = t.answer;
-    if answer != DONE {
-        return refused(answer, t.detail);
-    }
-    accepted(MasterParameters::OPCODE, 0, 0, 0, 0)
+    accepted(kind.opcode, number_of(behind, number), 0, 0, 0)
 }

@@ -1,16 +1,10 @@
 // What a complete message comes to, from its content: what stands between F0H and F7H, real time dropped.
-use crate::changes::judge_bus_edit;
-use crate::changes::judge_edit;
-use crate::dumps::judge_buffer;
-use crate::dumps::judge_master;
-use crate::dumps::judge_single;
+use crate::changes::judge_short;
+use crate::dumps::judge_dump;
 use crate::judged::Judged;
 use crate::judged::refused;
-use crate::kinds::BusEdit;
-use crate::kinds::EditBuffer;
-use crate::kinds::MasterParameters;
-use crate::kinds::RemoteEdit;
-use crate::kinds::SinglePatch;
+use crate::kinds::Kind;
+use crate::kinds::kind_of;
 use answers::OTHER_DEVICE;
 use answers::OTHER_MAKER;
 use answers::OTHER_OPCODE;
@@ -23,22 +17,12 @@ ghost use Rattle.messages.specs.Judged.{judged};
 fn judge_kind(opcode: u8, content: &[u8]) -> Judged
     ensures { λ r. ⌜ r ≡ judged (opcodeVerdict opcode (framed (now (content .entry)))) ⌝ }
 {
-    if opcode == SinglePatch::OPCODE {
-        return judge_single(content);
+    let kind = kind_of(opcode as usize);
+    match kind {
+        Kind::Dump(dump) => judge_dump(dump, content),
+        Kind::Short(short) => judge_short(short, content),
+        Kind::Unknown => refused(OTHER_OPCODE, 0),
     }
-    if opcode == MasterParameters::OPCODE {
-        return judge_master(content);
-    }
-    if opcode == RemoteEdit::OPCODE {
-        return judge_edit(content);
-    }
-    if opcode == BusEdit::OPCODE {
-        return judge_bus_edit(content);
-    }
-    if opcode == EditBuffer::OPCODE {
-        return judge_buffer(content);
-    }
-    refused(OTHER_OPCODE, 0)
 }
 
 // What a complete message comes to, by document 01's table from 4 on. The content is already without its real time.

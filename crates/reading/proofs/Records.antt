@@ -13,20 +13,13 @@ use Rattle.frames.specs.Bytes.{framed}
 use Rattle.frames.specs.Stream.{readInto}
 use Rattle.nibbles.specs.Nibbles.{pack, packing}
 use Rattle.nibbles.proofs.Laws.{length-pack, packing-done}
+use Rattle.messages.specs.Kinds.{kindOf, packedSize}
 use Rattle.messages.specs.Judge.{judge}
 use Rattle.messages.specs.Judged.{judged}
 use Rattle.messages.specs.declared.judged.Judged.{Judged}
-use Rattle.messages.proofs.Accepted.{Accepted, accepted, Size, patch-size, master-size, buffer-size, edit-size, bus-size}
-use Rattle.reading.specs.Read.{Reads, readingAs, sizeFor}
+use Rattle.messages.proofs.Accepted.{Accepted, accepted}
+use Rattle.reading.specs.Read.{Reads, readingAs}
 use Rattle.reading.specs.declared.recording.Reading.{Reading}
-
-size-is : (opcode size : ℕ) → Size opcode size → sizeFor opcode ≡ size
-unfolding sizeFor
-size-is _ _ patch-size = refl
-size-is _ _ master-size = refl
-size-is _ _ buffer-size = refl
-size-is _ _ edit-size = refl
-size-is _ _ bus-size = refl
 
 -- The packed bytes of an accepted message.
 abbrev pub packed : (c : List ℕ) → Accepted c → List ℕ
@@ -58,8 +51,8 @@ module _ (c : List ℕ) (j : Judged) (q : j ≡ judged (judge (framed c))) where
     judged-its = q ∙ rw (its .verdict)
 
     -- The size that the opcode has is that of the record.
-    pub size-its : sizeFor (j .detail) ≡ its .size
-    size-its = ap (λ (x : Judged). sizeFor (x .detail)) judged-its ∙ size-is (its .opcode) (its .size) (its .sized)
+    pub size-its : packedSize (kindOf (j .detail)) ≡ its .size
+    size-its = ap (λ (x : Judged). packedSize (kindOf (x .detail))) judged-its ∙ its .sized
 
     sent-length : length (take (2 * its .size) (drop 4 c)) ≡ 2 * its .size
     sent-length = by-size (its .size) (its .fits)

@@ -1,10 +1,8 @@
 -- A reading as the code answers it: plain numbers, and the lent buffer beside them.
 use mathlib.Core.Path.{_≡_}
-use mathlib.Core.Bool.{cond}
 use mathlib.Core.List.{List}
 use mathlib.Core.Option.{some}
 use Prim.Native.Nat.{ℕ}
-use lib.Dec.{eqb}
 use lib.ListN.{getD}
 use Rattle.frames.specs.Stream as stream
 use Rattle.messages.specs.Judge.{judge}
@@ -27,7 +25,3 @@ readMessage f t lent = stream.readReport judge 0 (some (stream.messageAt judge f
 pub record Reads (e : stream.Reading) (r : Reading) (after : List ℕ) : Type 0 where
   pub result : r ≡ numbersOf e
   pub lent : after ≡ e .lent
-
--- How many packed bytes the record of an accepted message has, by its opcode.
-unfoldable pub sizeFor : ℕ → ℕ
-sizeFor opcode = cond (eqb opcode 0x03) 172 (cond (eqb opcode 0x01) 134 (cond (eqb opcode 0x0D) 134 0))

@@ -4,9 +4,8 @@ use answers::NO_MESSAGE;
 use answers::NO_ROOM;
 use frames::Span;
 use messages::judging::judge_content;
-use messages::kinds::EditBuffer;
-use messages::kinds::MasterParameters;
-use messages::kinds::SinglePatch;
+use messages::kinds::kind_of;
+use messages::kinds::packed_size;
 ghost use mathlib.Core.Path.{_≡_};
 ghost use Prim.Native.Nat.{_+_, _^_, _<_};
 ghost use lib.ListN.{length};
@@ -14,7 +13,7 @@ ghost use Rattle.frames.specs.Bytes.{framed, withoutRealTime, realTimeIn};
 ghost use Rattle.frames.specs.Extent.{spanOf};
 ghost use Rattle.frames.specs.Stream.{readInto, read};
 ghost use Rattle.messages.specs.Judge.{judge};
-ghost use Rattle.reading.specs.Read.{Reads, readingAs, readMessage, sizeFor};
+ghost use Rattle.reading.specs.Read.{Reads, readingAs, readMessage};
 
 // Where a message starts and ends, its answer and detail, and the bytes that come with the answer: a patch number, or an
 // edit's two or four, as received; zero where the message has none and with every answer but 0.
@@ -45,22 +44,6 @@ fn refused(start: usize, end: usize, answer: u8, detail: usize) -> Reading
     }
 }
 
-// How many packed bytes an accepted message of an opcode has: none where it is an edit.
-fn size_for(opcode: usize) -> usize
-    ensures { λ r. ⌜ r ≡ sizeFor opcode ⌝ }
-{
-    if opcode == MasterParameters::OPCODE as usize {
-        return 172;
-    }
-    if opcode == SinglePatch::OPCODE as usize {
-        return 134;
-    }
-    if opcode == EditBuffer::OPCODE as usize {
-        return 134;
-    }
-    0
-}
-
 // The message from `start` to `end` with this content, its packed bytes into the buffer: as judged, then 13.
 fn read_content(content: &[u8], start: usize, end: usize, buffer: &mut [u8]) -> Reading
     ensures { λ r. ⌜ Reads (readInto start end (judge (framed (now (content .entry)))) (now (buffer .entry))) r (now (buffer .exit)) ⌝ }
@@ -71,7 +54,7 @@ fn read_content(content: &[u8], start: usize, end: usize, buffer: &mut [u8]) -> 
     if answer != DONE {
         return refused(start, end, answer, detail);
     }
-    let size = size_for(detail);
+    let size = packed_size(kind_of(detail));
     if buffer.len() < size {
         return refused(start, end, NO_ROOM, 0);
     }

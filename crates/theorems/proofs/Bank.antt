@@ -18,10 +18,12 @@ use Rattle.frames.specs.Scan.{outside, scan}
 use Rattle.frames.proofs.Walk.{reports-scan}
 use Rattle.frames.proofs.Complete.{data-bytes, scan-framed}
 use Rattle.patch.specs.Patch.{fieldRows}
+use Rattle.messages.specs.declared.kinds.Kind.the-variants.{Dump as ofDump}
+use Rattle.messages.specs.Kinds.{singlePatch, Filed as FiledKind, kindOf}
 use Rattle.messages.specs.Judge.{judge}
 use Rattle.writing.specs.Writing.{writingBank, bankFrom, firstBad, Bad, bad, orLater, bankTested, bankRoom, unlessBad}
 use Rattle.writing.proofs.Laws.{length-patch, length-patch-dump, bank-tested, none-bad}
-use Rattle.theorems.specs.RoundTrips.{Written, numbered, messageFor, reportFor, bankReports, BankReadBack}
+use Rattle.theorems.specs.RoundTrips.{Written, aDump, messageFor, reportFor, bankReports, BankReadBack}
 use Rattle.theorems.proofs.Writers.{Sound, sound, sound-holds}
 
 -- A message that is sound is reported with its record, and the scan goes on behind it.
@@ -41,6 +43,10 @@ none-bad-split n k ps e = go (first (fieldRows (take 134 ps)) (done 0 [] [])) re
     go (done o b p) q e = (done-passed (fieldRows (take 134 ps)) (done 0 [] []) o b p q .0, e)
     go (refused m d) q e = let z : _≡_ {A = ℕ} 0 1 = cc in absurd (omega arith)
 
+filed-single : FiledKind (ofDump singlePatch)
+unfolding kindOf
+filed-single = refl
+
 -- The scan of n patches of a bank from number k on.
 scan-bank : (n k : ℕ) (ps : List ℕ) → k + n ≤ 100 → (k + n) * 134 ≤ length ps → firstBad n k (drop (k * 134) ps) ≡ none
     → scan judge (k * 275) outside (bankFrom n k (drop (k * 134) ps)) ≡ bankReports n k ps
@@ -50,11 +56,11 @@ scan-bank (suc n) k ps few long e =
     let p = take 134 (drop (k * 134) ps) in
     let good = none-bad-split n k (drop (k * 134) ps) e in
     let l : length p ≡ 134 = length-patch ps k (omega arith) in
-    let s = sound (numbered k p) tt (rw (eq-eqb (length p) 134 l), (rw (le-ltb 99 k (omega arith)), good .0)) in
+    let s = sound (aDump singlePatch k p) (filed-single, le-ltb 99 k (omega arith)) tt (rw (eq-eqb (length p) 134 l), (rw (le-ltb 99 k (omega arith)), good .0)) in
     let further : k * 134 + 134 ≡ (k + 1) * 134 = omega arith in
     let behind = drop-drop 134 (k * 134) ps ∙ ap (λ (i : ℕ). drop i ps) further in
     let next : k * 275 + 275 ≡ (k + 1) * 275 = omega arith in
-    sound-scanned (numbered k p) s (k * 275) (bankFrom n (suc k) (drop 134 (drop (k * 134) ps)))
+    sound-scanned (aDump singlePatch k p) s (k * 275) (bankFrom n (suc k) (drop 134 (drop (k * 134) ps)))
     ∙ rw (length-patch-dump 0x01 k p l, next, behind, ← add-one k, scan-bank n (k + 1) ps (omega arith) (omega arith) (rw (behind, ← add-one k) at (good .1)))
 
 -- A bank that is written: whole patches, at most 100, none bad, and their dumps at the output's start.

@@ -8,12 +8,11 @@ use Prim.Native.Nat.{ℕ, suc, _+_, _-_, _≤_, _<_}
 use native.Mathlib.Omega.{arith}
 use lib.ListN.{length, take, drop, getD, length-append}
 use lib.Seq.{append-snoc, split-at, length-take-le, take-at, drop-at, getD-at}
-use borrow.Author.Tests.{le-ltb}
 use Rattle.answers.specs.Lists.{All}
 use Rattle.answers.specs.Table.{done, answerOf}
 use Rattle.answers.specs.Effect.{outcome, tested}
 use Rattle.answers.proofs.Lists.{all-append, all-left, all-right, all-weaken}
-use Rattle.answers.proofs.Rows.{Silent}
+use Rattle.answers.proofs.Rows.{row-silent, row-equal}
 use Rattle.answers.proofs.Effects.{passed}
 use Rattle.frames.specs.Bytes.{dataByte, framed}
 use Rattle.frames.specs.Stream.{report}
@@ -22,15 +21,23 @@ use Rattle.frames.proofs.Scan.{DataByte}
 use Rattle.frames.proofs.OneByte.{Only, closed, one-byte, scan-close}
 use Rattle.nibbles.specs.Nibbles.{nibbles, sum}
 use Rattle.nibbles.proofs.Laws.{length-nibbles, nibbles-narrow, sum-below}
-use Rattle.patch.specs.Patch.{firstOut, firstHalf, patchRows}
-use Rattle.patch.proofs.Tests.{patch-refusals, fields-pass, fields-silent, patch-length}
+use Rattle.patch.specs.Patch.{firstOut, firstHalf}
+use Rattle.patch.proofs.Tests.{fields-pass, fields-silent}
 use Rattle.patch.proofs.Rules.{fields-bytes}
-use Rattle.messages.specs.Judge.{judge}
+use Rattle.messages.specs.declared.kinds.Dump.{Dump}
+use Rattle.messages.specs.declared.kinds.Kind.the-variants.{Dump as ofDump}
+use Rattle.messages.specs.declared.kinds.Packed.the-variants.{Patch as aPatch}
+use Rattle.messages.specs.Kinds.{Filed, sizeOf}
+use Rattle.messages.specs.Judge.{misnumbered, judge}
 use Rattle.messages.specs.Layout.{dump}
 use Rattle.messages.proofs.Numbers.{never-13}
-use Rattle.messages.proofs.DumpLaws.{DumpKind, ofPatch, ofBuffer, ofMaster, opcodeOf, misnumbered, packedRows, bytesOf, wrong-length, dump-accepted}
-use Rattle.messages.proofs.Replaced.{IsPatch, patch-size, replaced, suffix-refused}
-use Rattle.theorems.specs.Damage.{numbered, editBuffer, Damage, replace, lose, add, damaged, Allowed, Contained, Demand3}
+use Rattle.messages.proofs.DumpLaws.{dumpRecord, wrong-length, dump-accepted}
+use Rattle.messages.proofs.Replaced.{replaced, suffix-refused}
+use Rattle.messages.proofs.Written.{seven-bits}
+use Rattle.writing.specs.Writing.{takenRows}
+use Rattle.theorems.specs.Damage.{Damage, replace, lose, add, damaged, Allowed, Contained, Demand3}
+use Rattle.theorems.specs.RoundTrips.{aDump}
+use Rattle.theorems.proofs.Writers.{refusals}
 use Rattle.theorems.proofs.Readings.{Refused}
 use Rattle.theorems.proofs.Containment.{Laid, lay, contained}
 
@@ -76,11 +83,11 @@ damaged-at x a b z e = go x e
 refused-judge : (m : List ℕ) → (answerOf (judge m) ≡ 0 → ⊥) → Refused (judge m)
 refused-judge m h = (h, never-13 m)
 
-module _ (k : DumpKind) (patch : IsPatch k) (n : ℕ) (number : misnumbered k n ≡ false) (small : n < 0x80)
+module _ (k : Dump) (filed : Filed (ofDump k)) (patch : k .packed ≡ aPatch) (n : ℕ) (number : misnumbered (k .behind) n ≡ false)
     (p : List ℕ) (l : length p ≡ 134) (out : firstOut p ≡ none) (half : firstHalf p ≡ none) (before behind : List ℕ) where
   -- The dump's first bytes behind F0H.
   abbrev head : List ℕ
-  head = 0x10 ∷ 0x06 ∷ opcodeOf k ∷ n ∷ []
+  head = 0x10 ∷ 0x06 ∷ k .opcode ∷ n ∷ []
 
   abbrev front : List ℕ → List ℕ
   front u = 0xF0 ∷ (head ++ u)
@@ -101,16 +108,13 @@ module _ (k : DumpKind) (patch : IsPatch k) (n : ℕ) (number : misnumbered k n 
       (kind-is dataByte (sum p) (sum-below p), tt)
 
   head-data : All DataByte head
-  head-data = (kind-is dataByte 0x10 (omega arith), (kind-is dataByte 0x06 (omega arith), (kind-is dataByte (opcodeOf k) (go k), (kind-is dataByte n small, tt))))
-    where
-      go : (k : DumpKind) → opcodeOf k < 0x80
-      go ofPatch = omega arith
-      go ofBuffer = omega arith
-      go ofMaster = omega arith
+  head-data =
+      let small = seven-bits (ofDump k) filed in
+      (kind-is dataByte 0x10 (omega arith), (kind-is dataByte 0x06 (omega arith), (kind-is dataByte (k .opcode) (small .0), (kind-is dataByte n (small .1 n number), tt))))
 
   -- A dump of another length.
   short : (w : List ℕ) → (length w ≡ 269 → ⊥) → Refused (judge (framed (head ++ w)))
-  short w h = rw (wrong-length k n w (λ e. h (omega (arith, patch-size k patch)))) ((λ e. omega arith), (λ e. omega arith))
+  short w h = rw (wrong-length k filed n w (λ e. h (omega (arith, ap sizeOf patch)))) ((λ e. omega arith), (λ e. omega arith))
 
   -- The three damages to the byte x between u and v.
   module _ (u : List ℕ) (x : ℕ) (v : List ℕ) (e : u ++ x ∷ v ≡ sent) where
@@ -129,7 +133,7 @@ module _ (k : DumpKind) (patch : IsPatch k) (n : ℕ) (number : misnumbered k n 
     spoilt : (y : Damage) → Fit y x → Only judge Refused (length before) (head ++ (u ++ (instead y x ++ v))) behind
     spoilt (replace i y) fit =
         one-byte judge Refused (length before) (head ++ u) y v behind front-data (back-data .1) ((λ e. omega arith), (λ e. omega arith))
-        (λ q. refused-judge (framed (head ++ (u ++ y ∷ v))) (replaced k patch n p l out u x v y e fit))
+        (λ q. refused-judge (framed (head ++ (u ++ y ∷ v))) (replaced k filed patch n p l out u x v y e fit))
         (λ q. short (u ++ v) (λ q. omega (arith, length-append u v, others)))
         (short u (λ q. omega (arith, others)))
         (refused-judge (framed v) (suffix-refused (u ++ (x ∷ [])) v (nibbles p) (sum p) narrow (rw (append-snoc u x v) e)))
@@ -144,36 +148,31 @@ module _ (k : DumpKind) (patch : IsPatch k) (n : ℕ) (number : misnumbered k n 
         (refused-judge (framed (x ∷ v)) (suffix-refused u (x ∷ v) (nibbles p) (sum p) narrow e))
 
     -- Cut at x, the dump is the bytes before it, x, and the bytes behind it; a damage puts others in the place of x.
-    dump-cut : dump (opcodeOf k) n p ≡ front u ++ x ∷ (v ++ (0xF7 ∷ []))
+    dump-cut : dump (k .opcode) n p ≡ front u ++ x ∷ (v ++ (0xF7 ∷ []))
     unfolding dump
     dump-cut = rw (← e, append-assoc u (x ∷ v) (0xF7 ∷ []))
 
-    damaged-cut : (y : Damage) → length (front u) ≡ placeOf y → damaged y (dump (opcodeOf k) n p) ≡ framed (head ++ (u ++ (instead y x ++ v)))
+    damaged-cut : (y : Damage) → length (front u) ≡ placeOf y → damaged y (dump (k .opcode) n p) ≡ framed (head ++ (u ++ (instead y x ++ v)))
     damaged-cut y place = rw (dump-cut, damaged-at y (front u) x (v ++ (0xF7 ∷ [])) place) (simp append-assoc)
 
-  accepted : judge (framed (head ++ sent)) ≡ done (opcodeOf k) (bytesOf k n) p
+  accepted : judge (framed (head ++ sent)) ≡ dumpRecord k n p
   unfolding dump
-  accepted = dump-accepted k n p number (l ∙ sym (patch-size k patch)) (fields-bytes p l out) (tests k patch)
-    where
-      tests : (k : DumpKind) → IsPatch k → Silent (packedRows k p)
-      tests ofPatch i = fields-silent p out half
-      tests ofBuffer i = fields-silent p out half
-      tests ofMaster i = absurd i
+  accepted = dump-accepted k filed n p number (l ∙ sym (ap sizeOf patch)) (fields-bytes p l out) (rw patch (fields-silent p out half))
 
   -- The undamaged dump has one report.
-  intact : Laid before (dump (opcodeOf k) n p) behind (report (length before) (length before + length (dump (opcodeOf k) n p)) (done (opcodeOf k) (bytesOf k n) p) ∷ [])
+  intact : Laid before (dump (k .opcode) n p) behind (report (length before) (length before + length (dump (k .opcode) n p)) (dumpRecord k n p) ∷ [])
   unfolding dump
   intact =
       let w = head ++ sent in
       let end : suc (suc (length before) + length w) ≡ length before + length (framed w) = omega (arith, length-append w (0xF7 ∷ [])) in
-      lay before w behind (report (length before) (length before + length (framed w)) (done (opcodeOf k) (bytesOf k n) p) ∷ [])
+      lay before w behind (report (length before) (length before + length (framed w)) (dumpRecord k n p) ∷ [])
       (rw (scan-close judge w (all-append DataByte head sent head-data sent-data) (suc (length before)) (length before) [] behind, end, accepted))
       ((omega arith, omega arith), tt)
 
-  demand : (x : Damage) → Allowed x (dump (opcodeOf k) n p)
-      → Contained before (dump (opcodeOf k) n p) (damaged x (dump (opcodeOf k) n p)) behind (done (opcodeOf k) (bytesOf k n) p)
+  demand : (x : Damage) → Allowed x (dump (k .opcode) n p)
+      → Contained before (dump (k .opcode) n p) (damaged x (dump (k .opcode) n p)) behind (dumpRecord k n p)
   demand x h =
-      let d = dump (opcodeOf k) n p in
+      let d = dump (k .opcode) n p in
       let i = allowed-place x d h in
       let j = placeOf x - 5 in
       let u = take j sent in
@@ -184,18 +183,14 @@ module _ (k : DumpKind) (patch : IsPatch k) (n : ℕ) (number : misnumbered k n 
       let byte : getD d (placeOf x) 0 ≡ b = rw (dump-cut u b v e) (getD-at (front u) b (v ++ (0xF7 ∷ [])) 0 (placeOf x) place) in
       let o = spoilt u b v e x (allowed-fit x d b h byte) in
       rw (damaged-cut u b v e x place)
-      (contained before d (framed (head ++ (u ++ (instead x b ++ v)))) behind (done (opcodeOf k) (bytesOf k n) p) (o .found) intact
+      (contained before d (framed (head ++ (u ++ (instead x b ++ v)))) behind (dumpRecord k n p) (o .found) intact
       (lay before (head ++ (u ++ (instead x b ++ v))) behind (o .found) (o .whole) (all-weaken _ _ (λ r q. (q .1, q .2)) (o .found) (o .each)))
       (all-weaken _ _ (λ r q. q .0) (o .found) (o .each)))
 
--- A patch that the writer takes has 134 bytes, in range, and no bus half used.
-patch-passed : (p : List ℕ) → tested (patchRows p) ≡ outcome 0 0 → (length p ≡ 134) × (firstOut p ≡ none) × (firstHalf p ≡ none)
-patch-passed p e =
-    let s = passed (patchRows p) (outcome 0 0) (patch-refusals p) (sym e) refl in
-    let f = fields-pass p (s .1) in
-    (patch-length p s, f .0, f .1)
-
 -- Demand 3, whole: one damaged byte of a patch dump, in any stream, costs that dump alone.
 pub demand-3 : Demand3
-demand-3 (numbered n) taken p ok = let q = patch-passed p ok in demand ofPatch tt n (le-ltb 99 n taken) (omega arith) p (q .0) (q .1) (q .2)
-demand-3 editBuffer taken p ok = let q = patch-passed p ok in demand ofBuffer tt 0 refl (omega arith) p (q .0) (q .1) (q .2)
+demand-3 k filed patch n p ok before behind =
+    let s = passed (takenRows k n p) (outcome 0 0) (refusals (aDump k n p)) (sym ok) refl in
+    let f = fields-pass p (rw patch at (s .1 .1)) in
+    demand k filed patch n (row-silent 8 (misnumbered (k .behind) n) (s .1 .0)) p
+    (row-equal 7 (length p) (sizeOf (k .packed)) (s .0) ∙ ap sizeOf patch) (f .0) (f .1) before behind

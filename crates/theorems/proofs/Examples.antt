@@ -7,13 +7,15 @@ use Rattle.answers.specs.Effect.{outcome, tested}
 use Rattle.frames.specs.Bytes.{kindOf, body, withoutRealTime}
 use Rattle.frames.specs.Stream.{report, messageAt, firstFrom, walk, reports}
 use Rattle.patch.specs.Fields.{fields, between, inRange, searchFrom, placeOf}
-use Rattle.patch.specs.Patch.{outFrom, halfUsed, halfFrom, patchRows}
+use Rattle.patch.specs.Patch.{outFrom, halfUsed, halfFrom}
 use Rattle.edits.specs.Edits.{extended, storedFor, editRows}
-use Rattle.messages.specs.Kinds.{kindOf as kindOfOpcode}
+use Rattle.messages.specs.declared.kinds.Kind.the-variants.{Dump as ofDump}
+use Rattle.messages.specs.Kinds.{singlePatch, Filed, kindOf as kindOfOpcode}
 use Rattle.messages.specs.Judge.{judge}
 use Rattle.messages.specs.Layout.{dump}
+use Rattle.writing.specs.Writing.{takenRows}
 use Rattle.theorems.specs.Examples.{P}
-use Rattle.theorems.specs.Damage.{numbered, lose, damaged, Contained}
+use Rattle.theorems.specs.Damage.{lose, damaged, Contained}
 use Rattle.theorems.proofs.Damage.{demand-3}
 
 -- A message with nothing in it, an edit of parameter 21, and an F0H at the end.
@@ -22,10 +24,14 @@ pub listing-example : reports judge (0x41 ∷ 0xF0 ∷ 0xF7 ∷ 0xF0 ∷ 0x10 �
 unfolding reports walk firstFrom messageAt body withoutRealTime kindOf judge kindOfOpcode editRows placeOf searchFrom fields storedFor extended inRange between
 listing-example = refl
 
-taken : tested (patchRows P) ≡ outcome 0 0
+taken : tested (takenRows singlePatch 0 P) ≡ outcome 0 0
 unfolding outFrom halfFrom halfUsed inRange between fields
 taken = refl
 
+filed : Filed (ofDump singlePatch)
+unfolding kindOfOpcode
+filed = refl
+
 -- Demand 3 at one case: its first data byte lost, the same dump behind it.
 pub damage-example : Contained [] (dump 0x01 0 P) (damaged (lose 5) (dump 0x01 0 P)) (dump 0x01 0 P) (done 0x01 (0 ∷ []) P)
-damage-example = demand-3 (numbered 0) (omega arith) P taken [] (dump 0x01 0 P) (lose 5) (omega arith)
+damage-example = demand-3 singlePatch filed refl 0 P taken [] (dump 0x01 0 P) (lose 5) (omega arith)

@@ -21,11 +21,17 @@ use Rattle.frames.proofs.OneByte.{scan-close}
 use Rattle.frames.proofs.Complete.{data-bytes, walk-framed, complete}
 use Rattle.patch.proofs.NameLaws.{set-then-shown, shown-then-set}
 use Rattle.edits.proofs.Laws.{edit-done, bus-done, edit-own-field, bus-own-field}
-use Rattle.messages.specs.Judge.{judge}
+use Rattle.messages.specs.declared.kinds.Behind.the-variants.{NumberTo as numberTo, Always as always}
+use Rattle.messages.specs.declared.kinds.Behind.{Behind}
+use Rattle.messages.specs.declared.kinds.Kind.the-variants.{Dump as ofDump, Short as ofShort, Unknown as unknown}
+use Rattle.messages.specs.declared.kinds.Kind.{Kind}
+use Rattle.messages.specs.Kinds.{kindOf, sizeOf}
+use Rattle.messages.specs.Judge.{misnumbered, numberIn, judge}
+use Rattle.messages.proofs.Filed.{all-filed}
 use Rattle.messages.proofs.Numbers.{refused-number}
-use Rattle.messages.proofs.DumpLaws.{ofPatch, ofBuffer, ofMaster}
-use Rattle.messages.proofs.AsWritten.{Accepted, ofDump, ofEdit, ofBus, accepted}
-use Rattle.theorems.specs.RoundTrips.{Written, numbered, editBuffer, masterOf, edit, busEdit, messageFor, recordFor, packedFor, putting, sent, WrittenReadBack, Again, messageIn, WrittenAgain, ReadAgain, ReadWrittenAgain, Demand2}
+use Rattle.messages.proofs.AsWritten.{Accepted, aDump, aShort, accepted}
+use Rattle.theorems.specs.RoundTrips as given
+use Rattle.theorems.specs.RoundTrips.{Written, Ours, messageFor, recordFor, packedFor, putting, sent, WrittenReadBack, Again, messageIn, WrittenAgain, ReadAgain, ReadWrittenAgain, Demand2}
 use Rattle.theorems.specs.Damage.{stream, reportsBefore, reportsAfter}
 use Rattle.theorems.proofs.Containment.{lay, parts, whole-parts}
 use Rattle.theorems.proofs.Writers.{rowsFor, takes, taken, sound, sound-holds}
@@ -44,9 +50,9 @@ framed-reported before c behind a =
 
 pub written-read-back : WrittenReadBack
 unfolding read
-written-read-back w out bytes e before behind =
+written-read-back w out ours bytes e before behind =
     let t = taken w out e in
-    let s = sound w bytes (t .0) in
+    let s = sound w ours bytes (t .0) in
     let message : sent w out ≡ messageFor w =
     ap (λ (x : Effect). take (x .result .detail) (x .lent)) (takes w out (t .0) (t .1)) ∙ take-append-seam (messageFor w) (drop (length (messageFor w)) out) in
     let found =
@@ -64,22 +70,18 @@ written-read-back w out bytes e before behind =
     }
 
 -- A message that a writer writes from a record is that message again.
-from-rows : (w : Written) (m : List ℕ) (v : Verdict) → Silent (rowsFor w) → m ≡ messageFor w → v ≡ recordFor w → Again m v
-from-rows w m v a e r = record {
+from-rows : (w : Written) → Ours w → (m : List ℕ) (v : Verdict) → Silent (rowsFor w) → m ≡ messageFor w → v ≡ recordFor w → Again m v
+from-rows w o m v a e r = record {
   given = w;
+  ours = o;
   its-record = sym r;
   same = λ out room. takes w out a (rw e at room) ∙ ap (λ (l : List ℕ). putting l out) (sym e);
 }
 
 by-accepted : (m : List ℕ) (v : Verdict) → Accepted m v → Again m v
-by-accepted m v (ofDump ofPatch n p e r number l a) = from-rows (numbered n p) m v (rw (eq-eqb (length p) 134 l), (rw number, a)) e r
-by-accepted m v (ofDump ofBuffer n p e r number l a) =
-    let zero : n ≡ 0 = omega (arith, ltb-false 0 n number) in
-    from-rows (editBuffer p) m v (rw (eq-eqb (length p) 134 l), a) (rw zero at e) r
-by-accepted m v (ofDump ofMaster n p e r number l a) =
-    from-rows (masterOf p) m v (rw (eq-eqb (length p) 172 l), tt) (rw (eqb-true n 3 (not-false (eqb n 3) number)) at e) r
-by-accepted m v (ofEdit n x e r a) = from-rows (edit n x) m v a e r
-by-accepted m v (ofBus b s a d e r q) = from-rows (busEdit b s a d) m v q e r
+by-accepted m v (aDump k n p f e r number l a) =
+    from-rows (given.aDump k n p) (f, number) m v (rw (eq-eqb (length p) (sizeOf (k .packed)) l), (rw number, a)) e r
+by-accepted m v (aShort k b f e r l a) = from-rows (given.aShort k b) (f, l) m v a e r
 
 -- Every message that is accepted, written again, is the same.
 pub judged-again : (c : List ℕ) (v : Verdict) → judge (framed c) ≡ v → answerOf v ≡ 0 → Again (framed c) v
@@ -117,29 +119,36 @@ read-written-again s place lent e = by-walk (walk judge s place) refl e
     by-walk (some r) q z = by-verdict (r .start) (r .end) (r .verdict) (walked-again s place r q) z
 
 -- What a writer is given by a record.
+number-from : Behind → List ℕ → ℕ
+number-from (numberTo greatest) bytes = getD bytes 0 0
+number-from (always byte) bytes = byte
+
+number-back : (b : Behind) (n : ℕ) → misnumbered b n ≡ false → number-from b (numberIn b n) ≡ n
+unfolding number-from
+number-back (numberTo greatest) n e = refl
+number-back (always byte) n e = sym (eqb-true n byte (not-false (eqb n byte) e))
+
+given-of : Kind → List ℕ → List ℕ → Option Written
+given-of (ofDump k) bytes packed = some (given.aDump k (number-from (k .behind) bytes) packed)
+given-of (ofShort k) bytes packed = some (given.aShort k bytes)
+given-of unknown bytes packed = none
+
 given-by : Verdict → Option Written
-given-by (done op bytes packed) =
-    cond (eqb op 0x01) (some (numbered (getD bytes 0 0) packed))
-    (cond (eqb op 0x0D) (some (editBuffer packed))
-    (cond (eqb op 0x03) (some (masterOf packed))
-    (cond (eqb op 0x06) (some (edit (getD bytes 0 0) (getD bytes 1 0)))
-    (some (busEdit (getD bytes 0 0) (getD bytes 1 0) (getD bytes 2 0) (getD bytes 3 0))))))
+given-by (done op bytes packed) = given-of (kindOf op) bytes packed
 given-by (refused n d) = none
 
-given-back : (w : Written) → given-by (recordFor w) ≡ some w
-unfolding given-by
-given-back (numbered n p) = refl
-given-back (editBuffer p) = refl
-given-back (masterOf m) = refl
-given-back (edit n v) = refl
-given-back (busEdit b s a d) = refl
+given-back : (w : Written) → Ours w → given-by (recordFor w) ≡ some w
+unfolding given-by given-of
+given-back (given.aDump k n p) o = rw (o .0, number-back (k .behind) n (o .1))
+given-back (given.aShort k b) o = rw (o .0)
 
-pub record-tells : (w x : Written) → recordFor w ≡ recordFor x → w ≡ x
-record-tells w x e = Option·some-injective w x (sym (given-back w) ∙ ap given-by e ∙ given-back x)
+pub record-tells : (w x : Written) → Ours w → Ours x → recordFor w ≡ recordFor x → w ≡ x
+record-tells w x o q e = Option·some-injective w x (sym (given-back w o) ∙ ap given-by e ∙ given-back x q)
 
 -- Demand 2, whole.
 pub demand-2 : Demand2
 demand-2 = record {
+  each-kind-ours = all-filed;
   written-read-back = written-read-back;
   bank-read-back = bank-read-back;
   record-tells = record-tells;

@@ -8,12 +8,12 @@ use Rattle.patch.specs.Values.{valueOf}
 use Rattle.edits.specs.Edits.{extended, storedFor, editRows, busRows, withBus, applying, applyingBus}
 use Rattle.messages.specs.Kinds.{kindOf}
 use Rattle.messages.specs.Judge.{judge}
-use Rattle.messages.specs.Layout.{dump, editMessage, busMessage}
-use Rattle.writing.specs.Writing.{writingPatch, writingEdit, writingBus}
+use Rattle.messages.specs.Layout.{dump}
+use Rattle.writing.specs.Writing.{writingDump, writingShort}
 use Rattle.theorems.specs.Examples.{Starred}
 
 pub starred : Starred
-unfolding nibbles total sum fields between inRange searchFrom placeOf outFrom halfUsed halfFrom stored anyOutside naming valueOf extended storedFor editRows busRows withBus applying applyingBus kindOf judge dump editMessage busMessage writingPatch writingEdit writingBus
+unfolding nibbles total sum fields between inRange searchFrom placeOf outFrom halfUsed halfFrom stored anyOutside naming valueOf extended storedFor editRows busRows withBus applying applyingBus kindOf judge dump writingDump writingShort
 starred = record {
   as-number-0 = refl;
   named = refl;

@@ -10,28 +10,13 @@ use Rattle.answers.specs.Lists.{All}
 use Rattle.answers.specs.Table.{Verdict, done, answerOf}
 use Rattle.answers.specs.Effect.{outcome, tested}
 use Rattle.frames.specs.Stream.{Report, report, Reading, reports, read}
-use Rattle.patch.specs.Patch.{patchRows}
-use Rattle.messages.specs.Judge.{judge}
+use Rattle.messages.specs.declared.kinds.Dump.{Dump}
+use Rattle.messages.specs.declared.kinds.Kind.the-variants.{Dump as ofDump}
+use Rattle.messages.specs.declared.kinds.Packed.the-variants.{Patch as aPatch}
+use Rattle.messages.specs.Kinds.{Filed}
+use Rattle.messages.specs.Judge.{numberIn, judge}
 use Rattle.messages.specs.Layout.{dump}
-
--- A patch dump as our writer writes it: numbered, or for the edit buffer.
-pub data Target : Type 0 where
-  numbered : (number : ℕ) → Target
-  editBuffer : Target
-
-abbrev pub dumpFor : Target → List ℕ → List ℕ
-dumpFor (numbered n) p = dump 0x01 n p
-dumpFor editBuffer p = dump 0x0D 0 p
-
--- The record of its report: opcode, number (for 01H), and the 134 bytes.
-abbrev pub recordFor : Target → List ℕ → Verdict
-recordFor (numbered n) p = done 0x01 (n ∷ []) p
-recordFor editBuffer p = done 0x0D [] p
-
--- The writer takes numbers 0 to 99.
-abbrev pub Taken : Target → Type 0
-Taken (numbered n) = n ≤ 99
-Taken editBuffer = Unit {0}
+use Rattle.writing.specs.Writing.{takenRows}
 
 -- One byte replaced, lost, or one added in front of it.
 pub data Damage : Type 0 where
@@ -112,8 +97,8 @@ pub record Contained (before d e behind : List ℕ) (v : Verdict) : Type 0 where
   pub read-damaged : (lent : List ℕ)
       → All (λ r. (r .answer ≡ 0 → ⊥) × (r .answer ≡ 13 → ⊥) × (r .lent ≡ lent)) (readings (stream before e behind) lent (reportsOfDump before e behind))
 
--- Demand 3, whole.
+-- Demand 3, whole: a patch dump of any kind, as its writer takes and writes it.
 abbrev pub Demand3 : Type 0
-Demand3 = (t : Target) → Taken t → (p : List ℕ) → tested (patchRows p) ≡ outcome 0 0
-    → (before behind : List ℕ) (x : Damage) → Allowed x (dumpFor t p)
-    → Contained before (dumpFor t p) (damaged x (dumpFor t p)) behind (recordFor t p)
+Demand3 = (k : Dump) → Filed (ofDump k) → k .packed ≡ aPatch → (n : ℕ) (p : List ℕ) → tested (takenRows k n p) ≡ outcome 0 0
+    → (before behind : List ℕ) (x : Damage) → Allowed x (dump (k .opcode) n p)
+    → Contained before (dump (k .opcode) n p) (damaged x (dump (k .opcode) n p)) behind (done (k .opcode) (numberIn (k .behind) n) p)

@@ -9,8 +9,9 @@ use Rattle.patch.specs.Names.{naming}
 use Rattle.patch.specs.Values.{plus, minus, valueOf}
 use Rattle.edits.specs.Edits.{extended, applying, applyingBus}
 use Rattle.messages.specs.Judge.{judge}
-use Rattle.messages.specs.Layout.{editMessage, busMessage}
-use Rattle.writing.specs.Writing.{writingPatch, writingEdit, writingBus}
+use Rattle.messages.specs.Kinds.{singlePatch, remoteEdit, busEdit}
+use Rattle.messages.specs.Layout.{shortMessage}
+use Rattle.writing.specs.Writing.{writingDump, writingShort}
 
 -- n bytes, zero but for the given ones: place and byte of each.
 abbrev pub zerosBut : ℕ → List (ℕ × ℕ) → List ℕ
@@ -27,7 +28,7 @@ room = replicate 275 0xFF
 
 -- The sum that is written with a patch.
 abbrev pub sumWith : List ℕ → ℕ
-sumWith p = getD (writingPatch 0 p room .lent) 273 0
+sumWith p = getD (writingDump singlePatch 0 p room .lent) 273 0
 
 -- `BASS 1` with two spaces behind.
 abbrev pub bass : List ℕ
@@ -36,20 +37,20 @@ bass = 0x42 ∷ 0x41 ∷ 0x53 ∷ 0x53 ∷ 0x20 ∷ 0x31 ∷ 0x20 ∷ 0x20 ∷ [
 -- A remote edit is accepted when read, and applied to P leaves the byte b at place k.
 abbrev pub Stores : ℕ → ℕ → ℕ → ℕ → Type 0
 Stores parameter v k b =
-    (judge (editMessage parameter v) ≡ done 0x06 (parameter ∷ v ∷ []) []) ×
+    (judge (shortMessage remoteEdit (parameter ∷ v ∷ [])) ≡ done 0x06 (parameter ∷ v ∷ []) []) ×
     (applying parameter v P ≡ record { result = outcome 0 0; lent = set P k b })
 
 -- It is refused alike when read, written, and applied to P.
 abbrev pub Refuses : ℕ → ℕ → ℕ → ℕ → Type 0
 Refuses parameter v n d =
-    (judge (editMessage parameter v) ≡ refused n d) ×
-    (writingEdit parameter v room ≡ record { result = outcome n d; lent = room }) ×
+    (judge (shortMessage remoteEdit (parameter ∷ v ∷ [])) ≡ refused n d) ×
+    (writingShort remoteEdit (parameter ∷ v ∷ []) room ≡ record { result = outcome n d; lent = room }) ×
     (applying parameter v P ≡ record { result = outcome n d; lent = P })
 
 -- The starred examples, in the paper's order.
 pub record Starred : Type 0 where
   -- P as number 0: place 157 is 01H, the sum at 273 is 01H, place 274 is F7H, all other data zero.
-  pub as-number-0 : writingPatch 0 P room
+  pub as-number-0 : writingDump singlePatch 0 P room
       ≡ record {
         result = outcome 0 275;
         lent = zerosBut 275 ((0, 0xF0) ∷ (1, 0x10) ∷ (2, 0x06) ∷ (3, 0x01) ∷ (157, 0x01) ∷ (273, 0x01) ∷ (274, 0xF7) ∷ []);
@@ -76,10 +77,10 @@ pub record Starred : Type 0 where
   pub parameter-0 : Refuses 0x00 0x40 11 9
   pub parameter-39 : (v : ℕ) → Refuses 39 v 8 0
   -- Bus 9, source 20, amount 40H, destination 31: bytes 131-133 are 14H, C0H, 1FH.
-  pub bus-9-read : judge (busMessage 9 20 0x40 31) ≡ done 0x0B (9 ∷ 20 ∷ 0x40 ∷ 31 ∷ []) []
+  pub bus-9-read : judge (shortMessage busEdit (9 ∷ 20 ∷ 0x40 ∷ 31 ∷ [])) ≡ done 0x0B (9 ∷ 20 ∷ 0x40 ∷ 31 ∷ []) []
   pub bus-9-applied : applyingBus 9 20 0x40 31 P
       ≡ record { result = outcome 0 0; lent = zerosBut 134 ((76, 1) ∷ (131, 0x14) ∷ (132, 0xC0) ∷ (133, 0x1F) ∷ []) }
   -- Bus 0, source 1, destination 0: 12, detail 0.
-  pub half-used-read : judge (busMessage 0 1 0 0) ≡ refused 12 0
-  pub half-used-written : writingBus 0 1 0 0 room ≡ record { result = outcome 12 0; lent = room }
+  pub half-used-read : judge (shortMessage busEdit (0 ∷ 1 ∷ 0 ∷ 0 ∷ [])) ≡ refused 12 0
+  pub half-used-written : writingShort busEdit (0 ∷ 1 ∷ 0 ∷ 0 ∷ []) room ≡ record { result = outcome 12 0; lent = room }
   pub half-used-applied : applyingBus 0 1 0 0 P ≡ record { result = outcome 12 0; lent = P }

@@ -1,5 +1,6 @@
 -- Demand 2: what is written and read back is the same, what is accepted and written again is the same less its real-time bytes, and an edit changes its own field alone.
 use mathlib.Core.Path.{_≡_}
+use mathlib.Core.Bool.{false}
 use mathlib.Core.List.{List, [], _∷_, _++_}
 use mathlib.Core.Option.{some}
 use Prim.Native.Nat.{ℕ, zero, suc, _+_, _-_, _*_, _/_, _≤_, _<_}
@@ -12,67 +13,61 @@ use Rattle.frames.specs.Stream.{Report, report, Reading, walk, reports, read}
 use Rattle.patch.specs.Names.{naming, showing}
 use Rattle.edits.specs.Edits.{applying, applyingBus}
 use Rattle.edits.proofs.Laws.{EditDone, BusDone}
-use Rattle.messages.specs.Judge.{judge}
-use Rattle.messages.specs.Layout.{dump, editMessage, busMessage}
-use Rattle.writing.specs.Writing.{writingPatch, writingBuffer, writingMaster, writingEdit, writingBus, writingBank}
+use Rattle.messages.specs.declared.kinds.Dump.{Dump}
+use Rattle.messages.specs.declared.kinds.Kind.the-variants.{Dump as ofDump, Short as ofShort}
+use Rattle.messages.specs.declared.kinds.Packed.the-variants.{Patch as aPatch, AnyBytes as anyBytes}
+use Rattle.messages.specs.declared.kinds.Packed.{Packed}
+use Rattle.messages.specs.declared.kinds.Short.{Short}
+use Rattle.messages.specs.Kinds.{kinds, Filed, countOf}
+use Rattle.messages.specs.Judge.{misnumbered, numberIn, judge}
+use Rattle.messages.specs.Layout.{dump, shortMessage}
+use Rattle.writing.specs.Writing.{writingDump, writingShort, writingBank}
 use Rattle.theorems.specs.Damage.{stream, reportsBefore, reportsAfter}
 
--- What our writers are given: a numbered patch, a patch for the edit buffer, a master, a remote edit, a matrix modulation edit.
+-- What our writers are given: for a dump the byte behind its opcode and its packed bytes, for a short message its bytes.
 pub data Written : Type 0 where
-  numbered : (number : ℕ) (patch : List ℕ) → Written
-  editBuffer : (patch : List ℕ) → Written
-  masterOf : (bytes : List ℕ) → Written
-  edit : (parameter v : ℕ) → Written
-  busEdit : (bus source amount destination : ℕ) → Written
+  aDump : (k : Dump) (number : ℕ) (packed : List ℕ) → Written
+  aShort : (k : Short) (bytes : List ℕ) → Written
+
+-- Its kind is one of ours; a dump's number passes, and a short message has its count of bytes.
+abbrev pub Ours : Written → Type 0
+Ours (aDump k n p) = Filed (ofDump k) × (misnumbered (k .behind) n ≡ false)
+Ours (aShort k b) = Filed (ofShort k) × (length b ≡ countOf (k .change))
+
+-- Numbers below 256: lent bytes of any value are bytes, and no test says so.
+abbrev pub AllBytes : Packed → List ℕ → Type 0
+AllBytes aPatch p = Unit {0}
+AllBytes (anyBytes count) p = All (λ b. b < 256) p
+
+abbrev pub BytesIn : Written → Type 0
+BytesIn (aDump k n p) = AllBytes (k .packed) p
+BytesIn (aShort k b) = Unit {0}
 
 -- Its writer, with a lent output.
 abbrev pub writing : Written → List ℕ → Effect
-writing (numbered n p) out = writingPatch n p out
-writing (editBuffer p) out = writingBuffer p out
-writing (masterOf m) out = writingMaster m out
-writing (edit n v) out = writingEdit n v out
-writing (busEdit b s a d) out = writingBus b s a d out
+writing (aDump k n p) out = writingDump k n p out
+writing (aShort k b) out = writingShort k b out
 
 -- Its message.
 abbrev pub messageFor : Written → List ℕ
-messageFor (numbered n p) = dump 0x01 n p
-messageFor (editBuffer p) = dump 0x0D 0 p
-messageFor (masterOf m) = dump 0x03 3 m
-messageFor (edit n v) = editMessage n v
-messageFor (busEdit b s a d) = busMessage b s a d
+messageFor (aDump k n p) = dump (k .opcode) n p
+messageFor (aShort k b) = shortMessage k b
 
 -- Its record: the opcode, the bytes that come with the answer, the packed bytes.
 abbrev pub opcodeFor : Written → ℕ
-opcodeFor (numbered n p) = 0x01
-opcodeFor (editBuffer p) = 0x0D
-opcodeFor (masterOf m) = 0x03
-opcodeFor (edit n v) = 0x06
-opcodeFor (busEdit b s a d) = 0x0B
+opcodeFor (aDump k n p) = k .opcode
+opcodeFor (aShort k b) = k .opcode
 
 abbrev pub bytesFor : Written → List ℕ
-bytesFor (numbered n p) = n ∷ []
-bytesFor (editBuffer p) = []
-bytesFor (masterOf m) = []
-bytesFor (edit n v) = n ∷ v ∷ []
-bytesFor (busEdit b s a d) = b ∷ s ∷ a ∷ d ∷ []
+bytesFor (aDump k n p) = numberIn (k .behind) n
+bytesFor (aShort k b) = b
 
 abbrev pub packedFor : Written → List ℕ
-packedFor (numbered n p) = p
-packedFor (editBuffer p) = p
-packedFor (masterOf m) = m
-packedFor (edit n v) = []
-packedFor (busEdit b s a d) = []
+packedFor (aDump k n p) = p
+packedFor (aShort k b) = []
 
 abbrev pub recordFor : Written → Verdict
 recordFor w = done (opcodeFor w) (bytesFor w) (packedFor w)
-
--- Numbers below 256: a lent master is bytes, and no field test says so.
-abbrev pub AllBytes : Written → Type 0
-AllBytes (numbered n p) = Unit {0}
-AllBytes (editBuffer p) = Unit {0}
-AllBytes (masterOf m) = All (λ b. b < 256) m
-AllBytes (edit n v) = Unit {0}
-AllBytes (busEdit b s a d) = Unit {0}
 
 -- The bytes m at an output's start, the bytes behind them kept.
 abbrev pub putting : List ℕ → List ℕ → Effect
@@ -108,11 +103,12 @@ pub record ReadBack (w : Written) (out before behind : List ℕ) : Type 0 where
 
 -- What a writer wrote, in any stream, is read back the same.
 abbrev pub WrittenReadBack : Type 0
-WrittenReadBack = (w : Written) (out : List ℕ) → AllBytes w → writing w out .result .answer ≡ 0 → (before behind : List ℕ) → ReadBack w out before behind
+WrittenReadBack = (w : Written) (out : List ℕ) → Ours w → BytesIn w → writing w out .result .answer ≡ 0 → (before behind : List ℕ) → ReadBack w out before behind
 
 -- The message m, written again from its record v, is the message m.
 pub record Again (m : List ℕ) (v : Verdict) : Type 0 where
   pub given : Written
+  pub ours : Ours given
   pub its-record : recordFor given ≡ v
   pub same : (out : List ℕ) → length m ≤ length out → writing given out ≡ putting m out
 
@@ -146,10 +142,12 @@ BankReadBack = (ps out : List ℕ) → writingBank ps out .result .answer ≡ 0
 
 -- Demand 2, whole.
 pub record Demand2 : Type 0 where
+  -- what is said of the kinds that are ours is said of each kind of the list
+  pub each-kind-ours : All Filed kinds
   pub written-read-back : WrittenReadBack
   pub bank-read-back : BankReadBack
   -- a record tells what a writer is given
-  pub record-tells : (w x : Written) → recordFor w ≡ recordFor x → w ≡ x
+  pub record-tells : (w x : Written) → Ours w → Ours x → recordFor w ≡ recordFor x → w ≡ x
   pub written-again : WrittenAgain
   pub read-written-again : ReadWrittenAgain
   -- an edit that is done changes its own field, or the three bytes of its bus, and no other byte

@@ -10,16 +10,16 @@ use lib.ListN.{length, take, drop, set, length-append, length-drop}
 use lib.Seq.{length-take-le, drop-drop}
 use borrow.Author.Tests.{lt-ltb, le-ltb, eq-eqb}
 use Rattle.answers.specs.Table.{rowAt, done, first}
-use Rattle.answers.specs.Effect.{tested, written}
+use Rattle.answers.specs.Effect.{tested}
 use Rattle.answers.proofs.Lists.{put-next}
 use Rattle.answers.proofs.Rows.{first-stopped, first-zero}
 use Rattle.nibbles.specs.Nibbles.{nibbles, sum}
 use Rattle.nibbles.proofs.Laws.{length-nibbles}
 use Rattle.patch.specs.Patch.{firstOut, firstHalf, fieldRows}
 use Rattle.patch.proofs.Tests.{field-refusals}
-use Rattle.messages.specs.Layout.{dump, editMessage, busMessage}
+use Rattle.messages.specs.Layout.{dump}
 use Rattle.writing.specs.declared.BankOutcome.{BankOutcome}
-use Rattle.writing.specs.Writing.{writingPatch, writingMaster, writingBank, bankFrom, firstBad, Bad, bad, orLater, bankOutcome, bankTested, bankRoom, unlessBad, BankGives}
+use Rattle.writing.specs.Writing.{writingBank, bankFrom, firstBad, Bad, bad, orLater, bankOutcome, bankTested, bankRoom, unlessBad, BankGives}
 
 -- An output after stores of bytes one after the other from place n on.
 abbrev pub puts : ℕ → List ℕ → List ℕ → List ℕ
@@ -45,16 +45,6 @@ length-dump o n p = simp (length-append, length-nibbles) (omega arith)
 pub dump-parts : (o n : ℕ) (p : List ℕ) → dump o n p ≡ ((0xF0 ∷ 0x10 ∷ 0x06 ∷ o ∷ n ∷ []) ++ nibbles p) ++ (sum p ∷ 0xF7 ∷ [])
 unfolding dump
 dump-parts o n p = simp append-assoc
-
--- A remote edit has seven bytes.
-pub length-edit : (n v : ℕ) → length (editMessage n v) ≡ 7
-unfolding editMessage
-length-edit n v = refl
-
--- A matrix modulation edit has nine bytes.
-pub length-bus : (b s a d : ℕ) → length (busMessage b s a d) ≡ 9
-unfolding busMessage
-length-bus b s a d = refl
 
 -- A patch of a bank has 134 bytes.
 pub length-patch : (ps : List ℕ) (k : ℕ) → k * 134 + 134 ≤ length ps → length (take 134 (drop (k * 134) ps)) ≡ 134
@@ -103,16 +93,6 @@ bad-here n k ps h = rw (add-one n, first-stopped (fieldRows (take 134 ps)) (done
 pub bad-next : (n k : ℕ) (ps : List ℕ) → tested (fieldRows (take 134 ps)) .answer ≡ 0 → firstBad (n + 1) k ps ≡ firstBad n (k + 1) (drop 134 ps)
 unfolding firstBad
 bad-next n k ps h = rw (add-one n, add-one k, first-zero (fieldRows (take 134 ps)) (done 0 [] []) (field-refusals (take 134 ps)) h)
-
--- A numbered patch of 134 bytes and a number of at most 99 are left to the fields and the room.
-pub patch-tested : (n : ℕ) (p out : List ℕ) → length p ≡ 134 → n ≤ 99 → writingPatch n p out ≡ written (fieldRows p) (dump 0x01 n p) out
-unfolding writingPatch
-patch-tested n p out e h = rw (eq-eqb (length p) 134 e, le-ltb 99 n h)
-
--- A master of 172 bytes is left to the room.
-pub master-tested : (m out : List ℕ) → length m ≡ 172 → writingMaster m out ≡ written [] (dump 0x03 3 m) out
-unfolding writingMaster
-master-tested m out e = rw (eq-eqb (length m) 172 e)
 
 -- A bank of whole patches, at most 100, is left to its patches and the room.
 pub bank-tested : (ps out : List ℕ) → length ps % 134 ≡ 0 → length ps ≤ 13400

@@ -6,34 +6,27 @@ use mathlib.Core.Option.{Option, none, some}
 use Prim.Native.Nat.{ℕ, zero, suc, _/_, _%_}
 use lib.Dec.{eqb, ltb}
 use lib.ListN.{length, take, drop}
-use Rattle.answers.specs.Table.{row, Verdict, done, refused, first}
+use Rattle.answers.specs.Table.{Row, row, Verdict, done, refused, first}
 use Rattle.answers.specs.Effect.{Effect, written}
-use Rattle.patch.specs.Patch.{fieldRows, patchRows}
-use Rattle.edits.specs.Edits.{editRows, busRows}
-use Rattle.messages.specs.Layout.{dump, editMessage, busMessage}
+use Rattle.patch.specs.Patch.{fieldRows}
+use Rattle.messages.specs.declared.kinds.Dump.{Dump}
+use Rattle.messages.specs.declared.kinds.Short.{Short}
+use Rattle.messages.specs.Kinds.{sizeOf, rowsOf}
+use Rattle.messages.specs.Judge.{misnumbered, packedRows}
+use Rattle.messages.specs.Layout.{dump, shortMessage}
 use Rattle.writing.specs.declared.BankOutcome.{BankOutcome}
 
--- A numbered patch: 7, 8, 11, 12, 13.
-unfoldable pub writingPatch : ℕ → List ℕ → List ℕ → Effect
-writingPatch number p out =
-    written (row 7 (not (eqb (length p) 134)) ∷ row 8 (ltb 99 number) ∷ fieldRows p) (dump 0x01 number p) out
+-- What the writer of a dump tests of the byte n behind its opcode and of its packed bytes: 7, 8, then their own 11 and 12.
+abbrev pub takenRows : Dump → ℕ → List ℕ → List Row
+takenRows k n p = row 7 (not (eqb (length p) (sizeOf (k .packed)))) ∷ row 8 (misnumbered (k .behind) n) ∷ packedRows (k .packed) p
 
--- A patch for the edit buffer: 7, 11, 12, 13.
-unfoldable pub writingBuffer : List ℕ → List ℕ → Effect
-writingBuffer p out = written (patchRows p) (dump 0x0D 0 p) out
+-- A dump: its tests, then 13.
+unfoldable pub writingDump : Dump → ℕ → List ℕ → List ℕ → Effect
+writingDump k n p out = written (takenRows k n p) (dump (k .opcode) n p) out
 
--- A master, version 3: 7, 13.
-unfoldable pub writingMaster : List ℕ → List ℕ → Effect
-writingMaster m out = written (row 7 (not (eqb (length m) 172)) ∷ []) (dump 0x03 3 m) out
-
--- A remote edit: its own 8 and 11, then 13.
-unfoldable pub writingEdit : ℕ → ℕ → List ℕ → Effect
-writingEdit parameter v out = written (editRows parameter v) (editMessage parameter v) out
-
--- A matrix modulation edit: its own 8, 14, 11 and 12, then 13.
-unfoldable pub writingBus : ℕ → ℕ → ℕ → ℕ → List ℕ → Effect
-writingBus bus source amount destination out =
-    written (busRows bus source amount destination) (busMessage bus source amount destination) out
+-- A short message: the tests of its bytes, then 13.
+unfoldable pub writingShort : Short → List ℕ → List ℕ → Effect
+writingShort k bytes out = written (rowsOf (k .change) bytes) (shortMessage k bytes) out
 
 -- n patches end to end as dumps, numbered from k.
 unfoldable pub bankFrom : ℕ → ℕ → List ℕ → List ℕ

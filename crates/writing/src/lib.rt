@@ -5,24 +5,30 @@ use answers::NO_ROOM;
 use answers::NOT_ALLOWED;
 use answers::Outcome;
 use answers::WRONG_LENGTH;
-use messages::kinds::BusEdit;
-use messages::kinds::EditBuffer;
-use messages::kinds::MasterParameters;
-use messages::kinds::RemoteEdit;
-use messages::kinds::SinglePatch;
+use messages::dumps::test_packed;
+use messages::dumps::wrong_number;
+use messages::kinds::BUS_EDIT;
+use messages::kinds::Dump;
+use messages::kinds::EDIT_BUFFER;
+use messages::kinds::MASTER_PARAMETERS;
+use messages::kinds::REMOTE_EDIT;
+use messages::kinds::SINGLE_PATCH;
+use messages::kinds::size_of;
 ghost use mathlib.Core.Path.{_≡_};
 ghost use mathlib.Core.List.{[], _∷_, _++_};
 ghost use Prim.Native.Nat.{_+_, _*_, _/_, _≤_};
 ghost use lib.ListN.{length, drop};
-ghost use Rattle.answers.specs.Effect.{Gives};
+ghost use Rattle.answers.specs.Effect.{Gives, tested};
 ghost use Rattle.nibbles.specs.Nibbles.{sum};
+ghost use Rattle.messages.specs.Kinds.{singlePatch, masterParameters, editBuffer, remoteEdit, busEdit, sizeOf};
 ghost use Rattle.messages.specs.Layout.{dump};
-ghost use Rattle.writing.specs.Writing.{writingPatch, writingBuffer, writingMaster, writingEdit, writingBus, writingBank, BankGives, bankFrom, firstBad, bankTested};
+ghost use Rattle.writing.specs.Writing.{takenRows, writingDump, writingShort, writingBank, BankGives, bankFrom, firstBad, bankTested};
 
-// The packed bytes of a patch and of a master.
+// The packed bytes of a patch.
 const PATCH: usize = 134;
 
-const MASTER: usize = 172;
+// The length of its dump.
+const PATCH_DUMP: usize = 275;
 
 // A bank has at most 100 patches.
 const BANK: usize = 13_400;
@@ -69,91 +75,94 @@ fn put_dump(opcode: u8, number: u8, packed: &[u8], out: &mut [u8])
     put_closing(packed, &mut out[end..]);
 }
 
+// What the writer of a dump tests: 7, 8, then the packed bytes' own 11 and 12.
+fn test_dump(kind: Dump, number: u8, p: &[u8]) -> Outcome
+    ensures { λ r. ⌜ r ≡ tested (takenRows kind number (now (p .entry))) ⌝ }
+{
+    let packed = kind.packed;
+    if p.len() != size_of(packed) {
+        return answers::refused(WRONG_LENGTH, 0);
+    }
+    let behind = kind.behind;
+    if wrong_number(behind, number) {
+        return answers::refused(NOT_ALLOWED, 0);
+    }
+    test_packed(packed, p)
+}
+
+// Writes a dump by its description: its tests, then 13. Done with its length. No kind has more than 172 packed bytes.
+fn write_dump(kind: Dump, number: u8, p: &[u8], out: &mut [u8]) -> Outcome
+    requires { ⌜ sizeOf (kind .packed) ≤ 172 ⌝ }
+    ensures { λ r. ⌜ Gives (writingDump kind number (now (p .entry)) (now (out .entry))) r (now (out .exit)) ⌝ }
+{
+    let tested = test_dump(kind, number, p);
+    if tested.answer != DONE {
+        return tested;
+    }
+    let length = 2 * p.len() + 7;
+    if out.len() < length {
+        return answers::refused(NO_ROOM, 0);
+    }
+    put_dump(kind.opcode, number, p, out);
+    answers::done(length)
+}
+
 // Writes a numbered patch: 7 for a patch that is not 134 bytes, 8 for a number above 99, the patch's own 11 and 12, then 13. Done
 // with detail 275.
 pub fn write_patch(number: u8, p: &[u8], out: &mut [u8]) -> Outcome
-    ensures { λ r. ⌜ Gives (writingPatch number (now (p .entry)) (now (out .entry))) r (now (out .exit)) ⌝ }
+    ensures { λ r. ⌜ Gives (writingDump singlePatch number (now (p .entry)) (now (out .entry))) r (now (out .exit)) ⌝ }
 {
-    if p.len() != PATCH {
-        return answers::refused(WRONG_LENGTH, 0);
-    }
-    if 99 < number {
-        return answers::refused(NOT_ALLOWED, 0);
-    }
-    let fields = patch::checks::test(p);
-    if fields.answer != DONE {
-        return fields;
-    }
-    if out.len() < SinglePatch::LENGTH {
-        return answers::refused(NO_ROOM, 0);
-    }
-    put_dump(SinglePatch::OPCODE, number, p, out);
-    answers::done(SinglePatch::LENGTH)
+    write_dump(SINGLE_PATCH, number, p, out)
 }
 
 // Writes a patch to the edit buffer, which has no number: the patch's own 7, 11 and 12, then 13. Done with detail 275.
 pub fn write_edit_buffer(p: &[u8], out: &mut [u8]) -> Outcome
-    ensures { λ r. ⌜ Gives (writingBuffer (now (p .entry)) (now (out .entry))) r (now (out .exit)) ⌝ }
+    ensures { λ r. ⌜ Gives (writingDump editBuffer 0 (now (p .entry)) (now (out .entry))) r (now (out .exit)) ⌝ }
 {
-    let tested = patch::checks::test(p);
-    if tested.answer != DONE {
-        return tested;
-    }
-    if out.len() < EditBuffer::LENGTH {
-        return answers::refused(NO_ROOM, 0);
-    }
-    put_dump(EditBuffer::OPCODE, 0, p, out);
-    answers::done(EditBuffer::LENGTH)
+    write_dump(EDIT_BUFFER, 0, p, out)
 }
 
 // Writes master parameters, version 3: 7 for a master that is not 172 bytes, then 13. Done with detail 351.
 pub fn write_master(m: &[u8], out: &mut [u8]) -> Outcome
-    ensures { λ r. ⌜ Gives (writingMaster (now (m .entry)) (now (out .entry))) r (now (out .exit)) ⌝ }
+    ensures { λ r. ⌜ Gives (writingDump masterParameters 3 (now (m .entry)) (now (out .entry))) r (now (out .exit)) ⌝ }
 {
-    if m.len() != MASTER {
-        return answers::refused(WRONG_LENGTH, 0);
-    }
-    if out.len() < MasterParameters::LENGTH {
-        return answers::refused(NO_ROOM, 0);
-    }
-    put_dump(MasterParameters::OPCODE, VERSION, m, out);
-    answers::done(MasterParameters::LENGTH)
+    write_dump(MASTER_PARAMETERS, VERSION, m, out)
 }
 
 // Writes a remote edit: its own 8 and 11, then 13. Done with detail 7.
 pub fn write_edit(parameter: u8, value: u8, out: &mut [u8]) -> Outcome
-    ensures { λ r. ⌜ Gives (writingEdit parameter value (now (out .entry))) r (now (out .exit)) ⌝ }
+    ensures { λ r. ⌜ Gives (writingShort remoteEdit (parameter ∷ value ∷ []) (now (out .entry))) r (now (out .exit)) ⌝ }
 {
     let tested = edits::test_edit(parameter, value);
     if tested.answer != DONE {
         return tested;
     }
-    if out.len() < RemoteEdit::LENGTH {
+    if out.len() < 7 {
         return answers::refused(NO_ROOM, 0);
     }
-    put_opening(RemoteEdit::OPCODE, parameter, out);
+    put_opening(REMOTE_EDIT.opcode, parameter, out);
     out[5] = value;
     out[6] = 0xF7;
-    answers::done(RemoteEdit::LENGTH)
+    answers::done(7)
 }
 
 // Writes a matrix modulation edit: its own 8, 14, 11 and 12, then 13. Done with detail 9.
 pub fn write_bus_edit(bus: u8, source: u8, amount: u8, destination: u8, out: &mut [u8]) -> Outcome
-    ensures { λ r. ⌜ Gives (writingBus bus source amount destination (now (out .entry))) r (now (out .exit)) ⌝ }
+    ensures { λ r. ⌜ Gives (writingShort busEdit (bus ∷ source ∷ amount ∷ destination ∷ []) (now (out .entry))) r (now (out .exit)) ⌝ }
 {
     let tested = edits::test_bus_edit(bus, source, amount, destination);
     if tested.answer != DONE {
         return tested;
     }
-    if out.len() < BusEdit::LENGTH {
+    if out.len() < 9 {
         return answers::refused(NO_ROOM, 0);
     }
-    put_opening(BusEdit::OPCODE, bus, out);
+    put_opening(BUS_EDIT.opcode, bus, out);
     out[5] = source;
     out[6] = amount;
     out[7] = destination;
     out[8] = 0xF7;
-    answers::done(BusEdit::LENGTH)
+    answers::done(9)
 }
 
 // The lowest bad patch of a bank: its own 11 or 12 with its number as place, or done with zeros.
@@ -192,8 +201,8 @@ fn put_bank(ps: &[u8], out: &mut [u8])
     while k < count {
         let from = k * PATCH;
         let to = from + PATCH;
-        let at = k * SinglePatch::LENGTH;
-        put_dump(SinglePatch::OPCODE, k as u8, &ps[from..to], &mut out[at..]);
+        let at = k * PATCH_DUMP;
+        put_dump(SINGLE_PATCH.opcode, k as u8, &ps[from..to], &mut out[at..]);
         k += 1;
     }
 }
@@ -221,7 +230,7 @@ pub fn write_bank(ps: &[u8], out: &mut [u8]) -> BankOutcome
     if tested.answer != DONE {
         return tested;
     }
-    let size = ps.len() / PATCH * SinglePatch::LENGTH;
+    let size = ps.len() / PATCH * PATCH_DUMP;
     if out.len() < size {
         return BankOutcome {
             answer: NO_ROOM,

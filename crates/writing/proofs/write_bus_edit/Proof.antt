@@ -1,4 +1,4 @@
--- The edit and the room are tested in this order, and then the bytes are written one after the other: each return is a case of `writingBus`.
+-- The edit and the room are tested in this order, and then the bytes are written one after the other: each return is a case of `writingShort`.
 use mathlib.Core.Path.{_≡_, refl}
 use mathlib.Core.List.{List, [], _∷_}
 use Prim.Native.Nat.{ℕ}
@@ -10,9 +10,9 @@ use Rattle.answers.proofs.Rows.{Silent}
 use Rattle.answers.proofs.Effects.{passed, gives-stopped, gives-short, gives-written}
 use Rattle.edits.specs.Edits.{busRows}
 use Rattle.edits.proofs.Tests.{bus-refusals}
-use Rattle.messages.specs.Layout.{busMessage}
-use Rattle.writing.specs.Writing.{writingBus}
-use Rattle.writing.proofs.Laws.{puts-after, length-bus}
+use Rattle.messages.specs.Layout.{messageOf}
+use Rattle.writing.specs.Writing.{writingShort}
+use Rattle.writing.proofs.Laws.{puts-after}
 use Rattle.writing.proofs.write_bus_edit.Statement.{statement}
 use Rattle.writing.proofs.write_bus_edit.Tie as tie
 
@@ -20,7 +20,7 @@ abbrev rows : tie.After-test-bus-edit → List Row
 rows t = let a = t .before .before .args in busRows (a .bus) (a .source) (a .amount) (a .destination)
 
 abbrev bytes : tie.After-test-bus-edit → List ℕ
-bytes t = let a = t .before .before .args in busMessage (a .bus) (a .source) (a .amount) (a .destination)
+bytes t = let a = t .before .before .args in messageOf 0x0B (a .bus ∷ a .source ∷ a .amount ∷ a .destination ∷ [])
 
 abbrev out : tie.After-test-bus-edit → List ℕ
 out t = t .before .before .args .out .now
@@ -29,20 +29,20 @@ silent : (t : tie.After-test-bus-edit) → t .test-bus-edit .result .answer ≡ 
 silent t z = let a = t .before .before .args in passed (rows t) (t .test-bus-edit .result) (bus-refusals (a .bus) (a .source) (a .amount) (a .destination)) (t .test-bus-edit .ensures) z
 
 size : (t : tie.After-test-bus-edit) → length (bytes t) ≡ 9
-size t = let a = t .before .before .args in length-bus (a .bus) (a .source) (a .amount) (a .destination)
+size t = refl
 
 returns : tie.Need-returns
-unfolding writingBus
+unfolding writingShort
 returns c = let t = c .before .before in gives-stopped (rows t) (bytes t) (out t) (t .test-bus-edit .result) (t .test-bus-edit .ensures) (c .if1 .taken)
 
 returns-2 : tie.Need-returns-2
-unfolding writingBus
+unfolding writingShort
 returns-2 c =
     let t = c .before .before .before .before in
     gives-short (rows t) (bytes t) (out t) 9 (c .refused .result) (size t) (silent t (c .before .before .if1 .left)) (c .before .if2 .taken) (c .refused .ensures)
 
 returns-3 : tie.Need-returns-3
-unfolding writingBus busMessage
+unfolding writingShort
 returns-3 c =
     let w = c .before .before .before in
     let room = w .before .before in

@@ -1,4 +1,4 @@
--- The edit and the room are tested in this order, and then the bytes are written one after the other: each return is a case of `writingEdit`.
+-- The edit and the room are tested in this order, and then the bytes are written one after the other: each return is a case of `writingShort`.
 use mathlib.Core.Path.{_≡_, refl}
 use mathlib.Core.List.{List, [], _∷_}
 use Prim.Native.Nat.{ℕ}
@@ -9,9 +9,9 @@ use Rattle.answers.proofs.Rows.{Silent}
 use Rattle.answers.proofs.Effects.{passed, gives-stopped, gives-short, gives-written}
 use Rattle.edits.specs.Edits.{editRows}
 use Rattle.edits.proofs.Tests.{edit-refusals}
-use Rattle.messages.specs.Layout.{editMessage}
-use Rattle.writing.specs.Writing.{writingEdit}
-use Rattle.writing.proofs.Laws.{puts-after, length-edit}
+use Rattle.messages.specs.Layout.{messageOf}
+use Rattle.writing.specs.Writing.{writingShort}
+use Rattle.writing.proofs.Laws.{puts-after}
 use Rattle.writing.proofs.write_edit.Statement.{statement}
 use Rattle.writing.proofs.write_edit.Tie as tie
 
@@ -19,7 +19,7 @@ abbrev rows : tie.After-test-edit → List Row
 rows t = let a = t .before .before .args in editRows (a .parameter) (a .value)
 
 abbrev bytes : tie.After-test-edit → List ℕ
-bytes t = let a = t .before .before .args in editMessage (a .parameter) (a .value)
+bytes t = let a = t .before .before .args in messageOf 0x06 (a .parameter ∷ a .value ∷ [])
 
 abbrev out : tie.After-test-edit → List ℕ
 out t = t .before .before .args .out .now
@@ -28,20 +28,20 @@ silent : (t : tie.After-test-edit) → t .test-edit .result .answer ≡ 0 → Si
 silent t z = let a = t .before .before .args in passed (rows t) (t .test-edit .result) (edit-refusals (a .parameter) (a .value)) (t .test-edit .ensures) z
 
 size : (t : tie.After-test-edit) → length (bytes t) ≡ 7
-size t = let a = t .before .before .args in length-edit (a .parameter) (a .value)
+size t = refl
 
 returns : tie.Need-returns
-unfolding writingEdit
+unfolding writingShort
 returns c = let t = c .before .before in gives-stopped (rows t) (bytes t) (out t) (t .test-edit .result) (t .test-edit .ensures) (c .if1 .taken)
 
 returns-2 : tie.Need-returns-2
-unfolding writingEdit
+unfolding writingShort
 returns-2 c =
     let t = c .before .before .before .before in
     gives-short (rows t) (bytes t) (out t) 7 (c .refused .result) (size t) (silent t (c .before .before .if1 .left)) (c .before .if2 .taken) (c .refused .ensures)
 
 returns-3 : tie.Need-returns-3
-unfolding writingEdit editMessage
+unfolding writingShort
 returns-3 c =
     let w = c .before .before .before in
     let room = w .before .before in

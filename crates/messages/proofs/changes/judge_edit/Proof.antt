@@ -1,27 +1,27 @@
 -- `judge_edit` tests the length, then what writing and applying the edit test: each return is what the rows of the kind are answered.
 use mathlib.Core.Path.{_∙_}
 use borrow.Author.Needs.{needs}
-use Rattle.messages.specs.Kinds.{remoteEdit}
-use Rattle.messages.proofs.Verdicts.{kind-length, kind-stopped, kind-done, edit}
+use Rattle.messages.specs.Kinds.{editBy, ofShort}
+use Rattle.messages.proofs.Verdicts.{kind-length, kind-stopped, kind-done, of-edit}
 use Rattle.messages.proofs.changes.judge_edit.Statement.{statement}
 use Rattle.messages.proofs.changes.judge_edit.Tie as tie
 
 returns : tie.Need-returns
-returns c = c .refused .ensures ∙ kind-length remoteEdit (c .before .before .before .args .content .now) (c .before .if1 .taken)
+returns c = c .refused .ensures ∙ kind-length (ofShort (editBy (c .before .before .before .args .opcode))) (c .before .before .before .args .content .now) (c .before .if1 .taken)
 
 returns-2 : tie.Need-returns-2
 returns-2 c =
     let at = c .before .before in
     let else1 = at .before .before .before in
     let m = else1 .before .before .args .content .now in
-    c .refused2 .ensures ∙ kind-stopped (edit m) (else1 .if1 .left) (at .test-edit .ensures) (c .before .if2 .taken)
+    c .refused2 .ensures ∙ kind-stopped (of-edit (else1 .before .before .args .opcode) m) (else1 .if1 .left) (at .test-edit .ensures) (c .before .if2 .taken)
 
 returns-3 : tie.Need-returns-3
 returns-3 c =
     let at = c .before .before in
     let else1 = at .before .before .before in
     let m = else1 .before .before .args .content .now in
-    c .accepted .ensures ∙ kind-done (edit m) (else1 .if1 .left) (at .test-edit .ensures) (c .before .if2 .left)
+    c .accepted .ensures ∙ kind-done (of-edit (else1 .before .before .args .opcode) m) (else1 .if1 .left) (at .test-edit .ensures) (c .before .if2 .left)
 
 pub judge-edit-spec : {M : Type 1} → statement M
 judge-edit-spec =

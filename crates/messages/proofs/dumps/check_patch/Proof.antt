@@ -2,7 +2,8 @@
 use mathlib.Core.Path.{_∙_}
 use borrow.Author.Needs.{needs}
 use Rattle.patch.proofs.Tests.{fields-tested}
-use Rattle.messages.proofs.Data.{patch-stopped, patch-fields}
+use Rattle.messages.specs.Kinds.{aPatch}
+use Rattle.messages.proofs.Data.{data-stopped, data-left}
 use Rattle.messages.proofs.dumps.check_patch.Statement.{statement}
 use Rattle.messages.proofs.dumps.check_patch.Tie as tie
 
@@ -10,7 +11,7 @@ returns : tie.Need-returns
 returns c =
     let at = c .before .before .before in
     let start = at .before .before .before in
-    c .refused .ensures ∙ patch-stopped (start .args .sent .now) (start .args .sum) (at .check-data .last .1 .1 .0) (at .check-data .result) (at .check-data .ensures) (c .before .if1 .taken)
+    c .refused .ensures ∙ data-stopped aPatch (start .args .sent .now) (start .args .sum) (at .check-data .last .1 .1 .0) (at .check-data .result) (at .check-data .ensures) (c .before .if1 .taken)
 
 returns-2 : tie.Need-returns-2
 returns-2 c =
@@ -18,7 +19,7 @@ returns-2 c =
     let start = at .before .before .before in
     let packed = at .check-data .last .1 .1 .0 in
     c .test .ensures ∙ fields-tested packed (at .check-data .kept .1 .1 .0)
-    ∙ patch-fields (start .args .sent .now) (start .args .sum) packed (at .check-data .result) (at .check-data .ensures) (c .before .before .if1 .left)
+    ∙ data-left aPatch (start .args .sent .now) (start .args .sum) packed (at .check-data .result) (at .check-data .ensures) (c .before .before .if1 .left)
 
 pub check-patch-spec : {M : Type 1} → statement M
 check-patch-spec =

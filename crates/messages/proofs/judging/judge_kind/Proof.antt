@@ -1,52 +1,51 @@
--- `judge_kind` asks for each opcode in turn; at each the definition computes.
-use mathlib.Core.Path.{_∙_}
+-- `judge_kind` judges by the kind that the opcode finds; no kind is longer than 351, so none has more than 172 packed bytes.
+use mathlib.Core.Path.{_≡_, _∙_, sym}
+use native.Mathlib.Omega.{arith}
 use borrow.Author.Needs.{needs}
-use borrow.Author.Tests.{ne-eqb}
-use Rattle.messages.specs.Kinds.{kindOf}
+use Rattle.messages.specs.Kinds.{ofDump, kindOf}
 use Rattle.messages.specs.Judge.{opcodeVerdict}
+use Rattle.messages.proofs.Filed.{longest}
 use Rattle.messages.proofs.judging.judge_kind.Statement.{statement}
 use Rattle.messages.proofs.judging.judge_kind.Tie as tie
 
+judge-dump-requires : tie.Need-judge-dump-requires
+judge-dump-requires c κs =
+    let at = c .before .before .before in
+    let opcode = at .before .before .args .opcode in
+    let e : kindOf opcode ≡ ofDump (c .before .kind .given .0 .0) = sym (at .kind-of .ensures) ∙ c .before .kind .given .1 in
+    omega (arith, rw e at (longest opcode))
+
 returns : tie.Need-returns
-unfolding opcodeVerdict kindOf
-returns c = rw (c .before .if1 .taken) (c .judge-single .ensures)
+unfolding opcodeVerdict
+returns c =
+    let kind = c .before .before in
+    let at = kind .before .before in
+    rw (← (at .kind-of .ensures), kind .kind .given .1) (c .judge-dump .ensures)
 
 returns-2 : tie.Need-returns-2
-unfolding opcodeVerdict kindOf
-returns-2 c = rw (c .before .if2 .taken) (c .judge-master .ensures)
+unfolding opcodeVerdict
+returns-2 c =
+    let kind = c .before .before in
+    let at = kind .before .before in
+    rw (← (at .kind-of .ensures), kind .kind2 .given .1) (c .judge-short .ensures)
 
 returns-3 : tie.Need-returns-3
-unfolding opcodeVerdict kindOf
-returns-3 c = rw (c .before .if3 .taken) (c .judge-edit .ensures)
-
-returns-4 : tie.Need-returns-4
-unfolding opcodeVerdict kindOf
-returns-4 c = rw (c .before .if4 .taken) (c .judge-bus-edit .ensures)
-
-returns-5 : tie.Need-returns-5
-unfolding opcodeVerdict kindOf
-returns-5 c = rw (c .before .if5 .taken) (c .judge-buffer .ensures)
-
-returns-6 : tie.Need-returns-6
-unfolding opcodeVerdict kindOf
-returns-6 c =
-    let none = c .before in
-    c .refused .ensures
-    ∙ simp (ne-eqb _ _ (none .before .before .before .before .if1 .left), ne-eqb _ _ (none .before .before .before .if2 .left), ne-eqb _ _ (none .before .before .if3 .left), ne-eqb _ _ (none .before .if4 .left), ne-eqb _ _ (none .if5 .left))
+unfolding opcodeVerdict
+returns-3 c =
+    let at = c .before .before .before in
+    rw (← (at .kind-of .ensures), c .before .enum-told .given .1) (c .refused .ensures)
 
 pub judge-kind-spec : {M : Type 1} → statement M
 judge-kind-spec =
     tie.close
     (tie.spec
     (λ c κs. search needs)
+    (λ c. search needs)
+    judge-dump-requires
+    (λ c. search needs)
+    (λ c κs. search needs)
+    (λ c. search needs)
+    (λ c κs. search needs)
     returns
-    (λ c κs. search needs)
     returns-2
-    (λ c κs. search needs)
-    returns-3
-    (λ c κs. search needs)
-    returns-4
-    (λ c κs. search needs)
-    returns-5
-    (λ c κs. search needs)
-    returns-6)
+    returns-3)

@@ -1,9 +1,10 @@
 -- `read_content` judges, then sees to the room, then packs: each return is a case of `readInto`.
-use mathlib.Core.Path.{_≡_, refl, _∙_}
+use mathlib.Core.Path.{_≡_, refl, ap, _∙_}
 use Prim.Native.Nat.{_*_, _+_, _-_, _≤_, _<_}
 use native.Mathlib.Omega.{arith}
 use lib.ListN.{length}
 use borrow.Author.Needs.{needs}
+use Rattle.messages.specs.Kinds.{packedSize}
 use Rattle.messages.proofs.Accepted.{Accepted}
 use Rattle.reading.proofs.Records.{read-refused, read-accepted, size-its, read-short, read-stored, packed-into, nothing-packed}
 use Rattle.reading.proofs.recording.read_content.Statement.{statement}
@@ -17,33 +18,33 @@ returns c =
     (c .before .if1 .taken) (c .refused .ensures)
 
 -- What is accepted, and that its size is the one found.
-its : (c : tie.After-size-for) → Accepted (c .before .before .before .before .before .args .content .now)
+its : (c : tie.After-packed-size) → Accepted (c .before .before .before .before .before .before .args .content .now)
 its c =
-    let at = c .before .before in
-    read-accepted (at .before .before .before .args .content .now) (at .judge-content .result) (at .judge-content .ensures) (c .before .if1 .left)
+    let at = c .before .before .before in
+    read-accepted (at .before .before .before .args .content .now) (at .judge-content .result) (at .judge-content .ensures) (c .before .before .if1 .left)
 
-size : (c : tie.After-size-for) → c .size-for .result ≡ its c .size
+size : (c : tie.After-packed-size) → c .packed-size .result ≡ its c .size
 size c =
-    let at = c .before .before in
-    c .size-for .ensures ∙ size-its (at .before .before .before .args .content .now) (at .judge-content .result) (at .judge-content .ensures) (its c)
+    let at = c .before .before .before in
+    c .packed-size .ensures ∙ ap packedSize (c .before .kind-of .ensures) ∙ size-its (at .before .before .before .args .content .now) (at .judge-content .result) (at .judge-content .ensures) (its c)
 
 returns-2 : tie.Need-returns-2
 returns-2 c =
     let found = c .before .before in
-    let at = found .before .before in
+    let at = found .before .before .before in
     let a = at .before .before .before .args in
     read-short (a .content .now) (at .judge-content .result) (at .judge-content .ensures) (its found) (a .start) (a .end) (a .buffer .now) (c .refused2 .result)
     (rw (size found) at (c .before .if2 .taken)) (c .refused2 .ensures)
 
 -- The data bytes are there.
-within : (c : tie.Then3) → 4 + 2 * c .before .before .size-for .result < length (c .before .before .before .before .before .before .before .args .content .now)
+within : (c : tie.Then3) → 4 + 2 * c .before .before .packed-size .result < length (c .before .before .before .before .before .before .before .before .args .content .now)
 within c = let found = c .before .before in let e = size found in rw e (its found .fits (omega (arith, c .if3 .taken)))
 
 mul-pack-into : tie.Need-mul-pack-into
-mul-pack-into c = omega (arith, within c, c .before .before .before .before .before .before .before .good)
+mul-pack-into c = omega (arith, within c, c .before .before .before .before .before .before .before .before .good)
 
 add-pack-into : tie.Need-add-pack-into
-add-pack-into c = omega (arith, within c, c .before .before .before .before .before .before .before .good)
+add-pack-into c = omega (arith, within c, c .before .before .before .before .before .before .before .before .good)
 
 part-pack-into-end : tie.Need-part-pack-into-end
 part-pack-into-end c = omega (arith, within c)
@@ -53,10 +54,10 @@ returns-3 c =
     let packs = c .before .before in
     let then3 = packs .before .before .before in
     let found = then3 .before .before in
-    let at = found .before .before in
+    let at = found .before .before .before in
     let a = at .before .before .before .args in
     let e = size found in
-    let m : 4 + 2 * found .size-for .result - 4 ≡ 2 * found .size-for .result = omega arith in
+    let m : 4 + 2 * found .packed-size .result - 4 ≡ 2 * found .packed-size .result = omega arith in
     let room : its found .size ≤ length (a .buffer .now) = rw e at (then3 .before .if2 .left) in
     read-stored (a .content .now) (at .judge-content .result) (at .judge-content .ensures) (its found) (a .start) (a .end) (a .buffer .now) _ (packs .pack-into .last .1 .0)
     room
@@ -67,7 +68,7 @@ returns-3 c =
 returns-4 : tie.Need-returns-4
 returns-4 c =
     let found = c .before .before in
-    let at = found .before .before in
+    let at = found .before .before .before in
     let a = at .before .before .before .args in
     let e = size found in
     let none : its found .size ≡ 0 = omega (arith, c .if3 .left) in
@@ -81,6 +82,7 @@ read-content-spec =
     (λ c κs. search needs)
     (λ c κs. search needs)
     returns
+    (λ c κs. search needs)
     (λ c κs. search needs)
     (λ c κs. search needs)
     returns-2

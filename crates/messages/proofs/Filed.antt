@@ -1,0 +1,50 @@
+-- What holds of every kind of the list holds of the kind that an opcode finds; and that kind has the opcode.
+use mathlib.Core.Path.{_≡_, refl, sym, ap}
+use mathlib.Core.Bool.{Bool, true, false, cond}
+use mathlib.Core.List.{List, [], _∷_}
+use Prim.Native.Nat.{ℕ, _≤_}
+use native.Mathlib.Omega.{arith}
+use lib.Dec.{eqb}
+use borrow.Author.Tests.{eqb-true}
+use Rattle.answers.specs.Lists.{All}
+use Rattle.messages.specs.Kinds.{Kind, unknown, kinds, opcodeOf, among, kindOf, Filed, lengthOf, isUnknown}
+
+among-all : (P : Kind → Type 0) → P unknown → (ks : List Kind) → All P ks → (o : ℕ) → P (among ks o)
+among-all P u [] a o = u
+among-all P u (k ∷ ks) a o = by-test (eqb o (opcodeOf k)) (among-all P u ks (a .1) o)
+  where
+    by-test : (t : Bool) → P (among ks o) → P (cond t k (among ks o))
+    by-test true r = a .0
+    by-test false r = r
+
+pub every-kind : (P : Kind → Type 0) → P unknown → All P kinds → (o : ℕ) → P (kindOf o)
+unfolding kindOf
+every-kind P u a o = among-all P u kinds a o
+
+among-opcode : (ks : List Kind) (o : ℕ) → isUnknown (among ks o) ≡ false → o ≡ opcodeOf (among ks o)
+among-opcode [] o h = let z : _≡_ {A = ℕ} 0 1 = cc in absurd (omega arith)
+among-opcode (k ∷ ks) o h = by-test (eqb o (opcodeOf k)) refl (among-opcode ks o) h
+  where
+    Right : Kind → Type 0
+    Right f = isUnknown f ≡ false → o ≡ opcodeOf f
+
+    by-test : (t : Bool) → eqb o (opcodeOf k) ≡ t → Right (among ks o) → Right (cond t k (among ks o))
+    by-test true q r h = eqb-true o (opcodeOf k) q
+    by-test false q r h = r h
+
+pub found-opcode : (o : ℕ) → isUnknown (kindOf o) ≡ false → o ≡ opcodeOf (kindOf o)
+unfolding kindOf
+found-opcode o h = among-opcode kinds o h
+
+-- What is found is one of the kinds.
+pub found-filed : (o : ℕ) → isUnknown (kindOf o) ≡ false → Filed (kindOf o)
+found-filed o h = sym (ap kindOf (found-opcode o h))
+
+-- No kind is longer than 351.
+pub longest : (o : ℕ) → lengthOf (kindOf o) ≤ 351
+longest = every-kind (λ k. lengthOf k ≤ 351) (omega arith) (omega arith)
+
+-- Each kind of the list is found by its own opcode: no two have the same.
+pub all-filed : All Filed kinds
+unfolding kindOf
+all-filed = (refl, (refl, (refl, (refl, (refl, tt)))))
