@@ -6,8 +6,8 @@ use mathlib.Core.Option.{none}
 use Prim.Native.Nat.{ℕ, _+_, _*_, _<_}
 use native.Mathlib.Omega.{arith}
 use lib.ListN.{length, take, drop}
-use Rattle.answers.specs.Table.{done, answerOf}
-use Rattle.answers.proofs.Rows.{Silent, first-passed, zero-silent, row-silent, row-at-silent, row-equal}
+use Rattle.answers.specs.Table.{done, answerOf, Silent}
+use Rattle.answers.proofs.Rows.{first-passed, zero-silent, row-silent, row-at-silent, row-equal}
 use Rattle.frames.specs.Bytes.{framed}
 use Rattle.nibbles.specs.Nibbles.{pack, firstWide, wideFrom}
 use Rattle.messages.specs.Kinds.{Kind, ofDump, ofShort, unknown, kindOf, Filed, sizeOf, packedSize, lengthOf, isUnknown, countOf}

@@ -9,8 +9,8 @@ use lib.Dec.{eqb}
 use lib.ListN.{length, take, getD, length-append, drop-of-length-le}
 use lib.Seq.{split-at, length-take-le}
 use borrow.Author.Tests.{eqb-true}
-use Rattle.answers.specs.Table.{Verdict, done, refused, answerOf}
-use Rattle.answers.proofs.Rows.{Silent, done-passed, row-silent, row-equal, row-at-silent}
+use Rattle.answers.specs.Table.{Verdict, done, refused, answerOf, Silent}
+use Rattle.answers.proofs.Rows.{done-passed, row-silent, row-equal, row-at-silent}
 use Rattle.frames.specs.Bytes.{framed}
 use Rattle.nibbles.specs.Nibbles.{nibbles, pack, sum, firstWide}
 use Rattle.nibbles.proofs.Laws.{length-pack, nibbles-pack, wide-none}

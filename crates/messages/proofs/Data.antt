@@ -6,7 +6,8 @@ use Prim.Native.Nat.{ℕ, _*_, _/_, _%_, _≤_}
 use native.Mathlib.Omega.{arith}
 use lib.ListN.{length, drop, drop-of-length-le}
 use borrow.Author.Tests.{eq-eqb, ne-eqb}
-use Rattle.answers.specs.Effect.{Gives, outcome, tested}
+use Rattle.answers.specs.Table.{outcome}
+use Rattle.answers.specs.Effect.{Gives, tested}
 use Rattle.answers.specs.declared.Outcome.{Outcome}
 use Rattle.nibbles.specs.Nibbles.{pack, sum, firstWide, packing}
 use Rattle.nibbles.proofs.Laws.{packing-wide, packing-done}

@@ -11,9 +11,9 @@ use lib.ListN.{length, getD, length-append}
 use lib.Seq.{append-snoc, getD-append-seam}
 use borrow.Author.Tests.{eq-eqb, eqb-true, not-false, ltb-false}
 use Rattle.answers.specs.Lists.{All}
-use Rattle.answers.specs.Table.{done}
+use Rattle.answers.specs.Table.{done, Silent}
 use Rattle.answers.proofs.Lists.{all-append, all-weaken}
-use Rattle.answers.proofs.Rows.{Silent, first-passed}
+use Rattle.answers.proofs.Rows.{first-passed}
 use Rattle.nibbles.specs.Nibbles.{nibbles, sum}
 use Rattle.nibbles.proofs.Laws.{nibbles-narrow, sum-below}
 use Rattle.patch.specs.Fields.{placeOf}

@@ -7,6 +7,7 @@ use native.Mathlib.Omega.{arith}
 use lib.ListN.{length, take, drop, length-append, length-take, length-drop}
 use borrow.Author.Needs.{needs}
 use borrow.Rule.Slice.PartMut.{putMid}
+use Rattle.answers.specs.declared.Outcome.{Outcome}
 use Rattle.answers.specs.Effect.{Effect}
 use Rattle.answers.proofs.Lists.{then-part}
 use Rattle.nibbles.specs.Nibbles.{nibbles, sum}
@@ -40,7 +41,7 @@ unpacked u =
     let p = packed u in
     let xs = after-opening u in
     let room : 2 * length p ≤ length (take (length xs - 5) (drop 5 xs)) = simp (length-take, length-drop) (omega (arith, opening .kept, start u .pre)) in
-    let written = u .unpack-into .ensures .lent ∙ ap (λ (e : Effect). e .lent) (unpacking-done p (take (length xs - 5) (drop 5 xs)) room) in
+    let written = u .unpack-into .ensures .lent ∙ ap (λ (e : Effect Outcome). e .lent) (unpacking-done p (take (length xs - 5) (drop 5 xs)) room) in
     then-part (head u) (nibbles p) (old u) xs (u .unpack-into .last .1 .0) 5 (2 * length p) refl (length-nibbles p) (omega (arith, start u .pre)) (opening .ensures) written
 
 returns : tie.Need-returns

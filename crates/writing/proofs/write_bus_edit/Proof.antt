@@ -5,8 +5,7 @@ use Prim.Native.Nat.{ℕ}
 use native.Mathlib.Omega.{arith}
 use lib.ListN.{length, length-set}
 use borrow.Author.Needs.{needs}
-use Rattle.answers.specs.Table.{Row}
-use Rattle.answers.proofs.Rows.{Silent}
+use Rattle.answers.specs.Table.{Row, Silent}
 use Rattle.answers.proofs.Effects.{passed, gives-stopped, gives-short, gives-written}
 use Rattle.edits.specs.Edits.{busRows}
 use Rattle.edits.proofs.Tests.{bus-refusals}

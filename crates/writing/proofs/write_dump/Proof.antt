@@ -5,8 +5,8 @@ use Prim.Native.Nat.{ℕ, _+_, _*_}
 use native.Mathlib.Omega.{arith}
 use lib.ListN.{length}
 use borrow.Author.Needs.{needs}
-use Rattle.answers.specs.Table.{Row}
-use Rattle.answers.proofs.Rows.{Silent, Refusals, row-equal}
+use Rattle.answers.specs.Table.{Row, Silent}
+use Rattle.answers.proofs.Rows.{Refusals, row-equal}
 use Rattle.answers.proofs.Effects.{passed, gives-stopped, gives-short, gives-written}
 use Rattle.messages.specs.Kinds.{sizeOf}
 use Rattle.messages.specs.Layout.{dump}

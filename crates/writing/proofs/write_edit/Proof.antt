@@ -4,8 +4,7 @@ use mathlib.Core.List.{List, [], _∷_}
 use Prim.Native.Nat.{ℕ}
 use lib.ListN.{length}
 use borrow.Author.Needs.{needs}
-use Rattle.answers.specs.Table.{Row}
-use Rattle.answers.proofs.Rows.{Silent}
+use Rattle.answers.specs.Table.{Row, Silent}
 use Rattle.answers.proofs.Effects.{passed, gives-stopped, gives-short, gives-written}
 use Rattle.edits.specs.Edits.{editRows}
 use Rattle.edits.proofs.Tests.{edit-refusals}

@@ -6,7 +6,8 @@ use Prim.Native.Nat.{ℕ, _+_, _-_, _*_}
 use native.Mathlib.Omega.{arith}
 use lib.ListN.{length, getD}
 use borrow.Author.Needs.{needs}
-use Rattle.answers.specs.Effect.{outcome, tested}
+use Rattle.answers.specs.Table.{outcome}
+use Rattle.answers.specs.Effect.{tested}
 use Rattle.messages.specs.Kinds.{Dump, ofDump, sizeOf}
 use Rattle.messages.specs.Judge.{misnumbered}
 use Rattle.messages.proofs.Verdicts.{kind-length, kind-stopped, kind-done, contentRows, of-dump}
