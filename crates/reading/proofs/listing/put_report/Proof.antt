@@ -7,7 +7,7 @@ use Rattle.reading.proofs.listing.put_report.Statement.{statement}
 use Rattle.reading.proofs.listing.put_report.Tie as tie
 
 returns : tie.Need-returns
-returns c = set-four (c .before .args .room .now) (c .before .args .r .start) (c .before .args .r .end) (c .before .args .r .answer) (c .before .args .r .detail) (c .before .pre)
+returns c = set-four (c .before .args .room .now) (c .before .args .r .start) (c .before .args .r .end) (c .before .args .r .outcome .answer) (c .before .args .r .outcome .detail) (c .before .pre)
 
 pub put-report-spec : {M : Type 1} → statement M
 put-report-spec =
