@@ -11,9 +11,9 @@ use Rattle.answers.proofs.Rows.{numberOf, Refusals, first-number, zero-silent, 
 use Rattle.nibbles.specs.Nibbles.{pack}
 use Rattle.edits.specs.Edits.{editRows, busRows}
 use Rattle.answers.specs.declared.Outcome.{Outcome}
-use Rattle.messages.specs.Kinds.{Packed, aPatch, anyBytes, Operands, anEdit, aBusEdit, Kind, ofDump, ofShort, unknown, countOf, kindOf, sizeOf}
+use Rattle.messages.specs.Kinds.{Packed, aPatch, anyBytes, Dump, Operands, anEdit, aBusEdit, Kind, ofDump, ofShort, unknown, countOf, kindOf, sizeOf}
 use Rattle.messages.specs.Judge.{byteAt, dataOf, dataRows, packedRows, operandRows, bytesFrom, kindRows, messageRows, recordOf, judge}
-use Rattle.messages.specs.Layout.{givenRows}
+use Rattle.messages.specs.Layout.{behindFor, dumpGiven, givenRows}
 
 -- The numbers of a refused message: 4 to 12, and 14.
 abbrev pub Listed : ℕ → Type 0
@@ -47,8 +47,11 @@ pub operand-refusals : (o : Operands) (b : List ℕ) → Refusals (operandRows o
 operand-refusals o b = all-weaken _ _ (λ r h z. omega arith) (operandRows o b) (operand-numbers o b)
 
 -- So are those of what a writer is given.
+pub dump-given-refusals : (k : Dump) (n : ℕ) (p : List ℕ) → Refusals (dumpGiven k n p)
+dump-given-refusals k n p = ((λ z. omega arith), ((λ z. omega arith), packed-refusals (k .packed) p))
+
 pub given-refusals : (k : Kind) (b p : List ℕ) → Refusals (givenRows k b p)
-given-refusals (ofDump k) b p = ((λ z. omega arith), ((λ z. omega arith), packed-refusals (k .packed) p))
+given-refusals (ofDump k) b p = dump-given-refusals k (behindFor (k .behind) b) p
 given-refusals (ofShort k) b p = ((λ z. omega arith), operand-refusals (k .operands) b)
 given-refusals unknown b p = tt
 

@@ -9,7 +9,7 @@ use Rattle.answers.specs.Table.{Row, row, Verdict, done}
 use Rattle.frames.specs.Bytes.{framed}
 use Rattle.nibbles.specs.Nibbles.{nibbles, sum}
 use Rattle.answers.specs.Lists.{All}
-use Rattle.messages.specs.Kinds.{Behind, numberTo, always, Packed, aPatch, anyBytes, Kind, ofDump, ofShort, unknown, opcodeOf, sizeOf}
+use Rattle.messages.specs.Kinds.{Behind, numberTo, always, Packed, aPatch, anyBytes, Dump, Kind, ofDump, ofShort, unknown, opcodeOf, sizeOf}
 use Rattle.messages.specs.Judge.{misnumbered, packedRows, lentOperandRows}
 
 -- F0H 10H 06H, the opcode, its bytes, F7H.
@@ -55,9 +55,12 @@ BytesIn (ofDump k) p = AllBytes (k .packed) p
 BytesIn (ofShort k) p = Unit {0}
 BytesIn unknown p = Unit {0}
 
--- What a writer tests of it: 7, 8, then the packed bytes' own 11 and 12; or 7, then the tests of an edit.
+-- What the writer of a dump tests of the byte behind its opcode and of its packed bytes: 7, 8, then their own 11 and 12.
+abbrev pub dumpGiven : Dump → ℕ → List ℕ → List Row
+dumpGiven k n p = row 7 (not (eqb (length p) (sizeOf (k .packed)))) ∷ row 8 (misnumbered (k .behind) n) ∷ packedRows (k .packed) p
+
+-- What a writer tests of what it is given; of a short message the count of its bytes, then their tests.
 abbrev pub givenRows : Kind → List ℕ → List ℕ → List Row
-givenRows (ofDump k) b p =
-    row 7 (not (eqb (length p) (sizeOf (k .packed)))) ∷ row 8 (misnumbered (k .behind) (behindFor (k .behind) b)) ∷ packedRows (k .packed) p
+givenRows (ofDump k) b p = dumpGiven k (behindFor (k .behind) b) p
 givenRows (ofShort k) b p = lentOperandRows (k .operands) b
 givenRows unknown b p = []

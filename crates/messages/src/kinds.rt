@@ -23,6 +23,8 @@ impl MasterParameters {
     pub const OPCODE: u8 = 0x03;
 
     pub const LENGTH: usize = 351;
+
+    pub const VERSION: u8 = 3;
 }
 
 // Remote edit: parameter, value.
@@ -109,7 +111,7 @@ pub const SINGLE_PATCH: Dump = Dump {
 pub const MASTER_PARAMETERS: Dump = Dump {
     opcode: MasterParameters::OPCODE,
     length: MasterParameters::LENGTH,
-    behind: Behind::Always(3),
+    behind: Behind::Always(MasterParameters::VERSION),
     packed: Packed::AnyBytes(MASTER),
 };
 

@@ -14,13 +14,6 @@ use Rattle.reading.specs.Rooms.{numbersOf, width, flat, fitting, Holds, 
 use Rattle.reading.specs.Told.{reportOf}
 use Rattle.reading.specs.declared.walking.Report.{Report as Numbers}
 
-pub set-four : (o : List ℕ) (a b c d : ℕ) → 4 ≤ length o → set (set (set (set o 0 a) 1 b) 2 c) 3 d ≡ (a ∷ b ∷ c ∷ d ∷ []) ++ drop 4 o
-set-four [] a b c d h = absurd (omega arith)
-set-four (x ∷ []) a b c d h = absurd (omega arith)
-set-four (x ∷ y ∷ []) a b c d h = absurd (omega arith)
-set-four (x ∷ y ∷ z ∷ []) a b c d h = absurd (omega arith)
-set-four (x ∷ y ∷ z ∷ u ∷ o) a b c d h = refl
-
 pub length-flat : (rs : List Report) → length (flat rs) ≡ width * length rs
 unfolding flat
 length-flat [] = refl
