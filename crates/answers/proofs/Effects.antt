@@ -6,12 +6,13 @@ use Prim.Native.Nat.{ℕ, _<_, _≤_}
 use native.Mathlib.Omega.{arith}
 use lib.Dec.{ltb}
 use lib.ListN.{length, drop}
+use lib.Seq.{drop-at}
 use borrow.Author.Tests.{lt-ltb, le-ltb, ltb-false}
 use Rattle.answers.specs.declared.Outcome.{Outcome}
-use Rattle.answers.specs.Table.{Row, row, Verdict, done, refused, first, outcome, answerOf, Silent}
-use Rattle.answers.specs.Effect.{tested, changed, written, Gives}
+use Rattle.answers.specs.Table.{Row, row, Verdict, done, refused, first, outcome, outcomeOf, answerOf, Silent}
+use Rattle.answers.specs.Effect.{tested, changed, written, Gives, Keeps, Decides}
 use Rattle.answers.proofs.Lists.{all-append}
-use Rattle.answers.proofs.Rows.{Refusals, numberOf, first-append, first-passed, passed-over, silent-parts, zero-silent, answered-silent, row-silent, stopped, first-stopped}
+use Rattle.answers.proofs.Rows.{Refusals, numberOf, Heard, nothing, something, heard, decides, first-append, first-passed, passed-over, silent-parts, zero-silent, answered-silent, row-silent, stopped, first-stopped}
 
 -- Rows that a test answered by 0 say nothing.
 pub passed : (rows : List Row) (r : Outcome) → Refusals rows → r ≡ tested rows → r .answer ≡ 0 → Silent rows
@@ -31,6 +32,29 @@ module _ (detail : ℕ) (new old : List ℕ) where
   -- Answered 0, no row says anything.
   pub changed-silent : (rows : List Row) → Refusals rows → changed detail new old (first rows (done 0 [] [])) .result .answer ≡ 0 → Silent rows
   changed-silent rows a e = zero-silent rows (done 0 [] []) a (sym (changed-answer (first rows (done 0 [] []))) ∙ e)
+
+  -- Its outcome is that of the rows, with the detail where they say nothing.
+  pub changed-decides : (rows : List Row) → Refusals rows → Decides rows detail (changed detail new old (first rows (done 0 [] [])) .result)
+  changed-decides rows a = decides rows detail [] [] _ a (same rows)
+    where
+      same : (rows : List Row) → changed detail new old (first rows (done 0 [] [])) .result ≡ outcomeOf (first rows (done detail [] []))
+      same [] = refl
+      same (r ∷ rows) = go (heard r) (same rows)
+        where
+          go : Heard r → changed detail new old (first rows (done 0 [] [])) .result ≡ outcomeOf (first rows (done detail [] []))
+              → changed detail new old (first (r ∷ rows) (done 0 [] [])) .result ≡ outcomeOf (first (r ∷ rows) (done detail [] []))
+          go (nothing q) i = rw q i
+          go (something o q) i = rw q
+
+  -- Refused, it keeps every byte; done, those behind the first n, if the new bytes do.
+  pub changed-keeps : (n : ℕ) (rows : List Row) → (Silent rows → drop n new ≡ drop n old) → Refusals rows
+      → let e = changed detail new old (first rows (done 0 [] [])) in Keeps (e .result .answer) n old (e .lent)
+  changed-keeps n rows h a = record {
+    refused = changed-kept (first rows (done 0 [] []));
+    behind = λ z.
+        let s = changed-silent rows a z in
+        rw (first-passed rows (done 0 [] []) s) (h s);
+  }
 
   -- Rows that refuse give their own answer, whatever rows follow.
   pub gives-kept : (rows more : List Row) (v : Verdict) (r : Outcome) → r ≡ tested rows → (r .answer ≡ 0 → ⊥)
@@ -66,6 +90,21 @@ module _ (rows : List Row) (bytes out : List ℕ) where
       let all = all-append (λ (r : Row). numberOf r ≡ 0 → ⊥) rows room a (omega arith) in
       let s = silent-parts rows room (changed-silent (length bytes) (bytes ++ drop (length bytes) out) out (rows ++ room) all e) in
       (s .0, ltb-false (length out) (length bytes) (row-silent 13 (ltb (length out) (length bytes)) (s .1 .0)))
+
+  -- Its table is the rows and then 13; done, the bytes behind the output are kept.
+  abbrev pub andRoom : List Row
+  andRoom = rows ++ (row 13 (ltb (length out) (length bytes)) ∷ [])
+
+  room-refusals : Refusals rows → Refusals andRoom
+  room-refusals a = all-append (λ (r : Row). numberOf r ≡ 0 → ⊥) rows (row 13 (ltb (length out) (length bytes)) ∷ []) a (omega arith)
+
+  pub written-decides : Refusals rows → Decides andRoom (length bytes) (written rows bytes out .result)
+  written-decides a = changed-decides (length bytes) (bytes ++ drop (length bytes) out) out andRoom (room-refusals a)
+
+  pub written-keeps : Refusals rows → Keeps (written rows bytes out .result .answer) (length bytes) out (written rows bytes out .lent)
+  written-keeps a =
+      changed-keeps (length bytes) (bytes ++ drop (length bytes) out) out (length bytes) andRoom (λ s. drop-at bytes (drop (length bytes) out) (length bytes) refl)
+      (room-refusals a)
 
   -- Rows that refuse give their own answer, and every byte is kept.
   pub gives-stopped : (r : Outcome) → r ≡ tested rows → (r .answer ≡ 0 → ⊥) → Gives (written rows bytes out) r out

@@ -12,7 +12,7 @@ use borrow.Author.Tests.{eqb-true, not-false}
 use Rattle.answers.specs.declared.Outcome.{Outcome}
 use Rattle.answers.specs.Lists.{All}
 use Rattle.answers.specs.Table.{Row, row, rowAt, Verdict, done, refused, unless, first, outcome, outcomeOf, answerOf, says, Silent, FirstSays}
-use Rattle.answers.specs.Effect.{tested}
+use Rattle.answers.specs.Effect.{tested, Decides}
 use Rattle.answers.proofs.Lists.{all-left, all-right}
 
 -- Rows after rows are tested after them.
@@ -166,3 +166,23 @@ tested-stopped rows more n = rw (stopped rows more (done 0 [] []) n)
 
 pub tested-passed-on : (rows more : List Row) → Refusals rows → tested rows .answer ≡ 0 → tested (rows ++ more) ≡ tested more
 tested-passed-on rows more a z = rw (passed-over rows more (done 0 [] []) (answered-silent rows a z))
+
+-- What rows come to with a detail, where they are left to a `done`.
+pub decides : (rows : List Row) (detail : ℕ) (b p : List ℕ) (o : Outcome) → Refusals rows → o ≡ outcomeOf (first rows (done detail b p)) → Decides rows detail o
+decides rows detail b p o a e = record {
+  refuses = λ r n. (
+    (λ q. first-given rows detail b p r (by-answer (first rows (done detail b p)) r n (sym e ∙ q))),
+    (λ f. e ∙ ap outcomeOf (given-first rows (done detail b p) r f)),
+  );
+  is-done = (
+    (λ z. zero-silent rows (done detail b p) a (sym (ap (λ (x : Outcome). x .answer) e) ∙ z)),
+    (λ s. ap (λ (x : Outcome). x .answer) (e ∙ ap outcomeOf (first-passed rows (done detail b p) s))),
+  );
+  with-detail = λ z.
+      let s = zero-silent rows (done detail b p) a (sym (ap (λ (x : Outcome). x .answer) e) ∙ z) in
+      ap (λ (x : Outcome). x .detail) (e ∙ ap outcomeOf (first-passed rows (done detail b p) s));
+}
+  where
+    by-answer : (v : Verdict) (r : Outcome) → (r .answer ≡ 0 → ⊥) → outcomeOf v ≡ r → v ≡ refused r
+    by-answer (done d b p) r n q = absurd (n (sym (ap (λ (x : Outcome). x .answer) q)))
+    by-answer (refused x) r n q = ap refused q

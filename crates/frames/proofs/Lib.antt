@@ -9,3 +9,4 @@ pub mod OneByte
 pub mod Handing
 pub mod Blocks
 pub mod Complete
+pub mod Lent

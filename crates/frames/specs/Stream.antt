@@ -5,7 +5,7 @@ use mathlib.Core.List.{List, [], _∷_, _++_}
 use mathlib.Core.Option.{Option, none, some}
 use Prim.Native.Nat.{ℕ, zero, suc, _+_}
 use lib.Dec.{eqb, leb}
-use lib.ListN.{length, drop}
+use lib.ListN.{length, take, drop}
 use Rattle.answers.specs.declared.Outcome.{Outcome}
 use Rattle.answers.specs.Table.{Verdict, done, refused, outcome}
 use Rattle.answers.specs.Effect.{Effect}
@@ -29,6 +29,11 @@ pub record Reading : Type 0 where
 
 abbrev pub reading : ℕ → ℕ → Outcome → List ℕ → Reading
 reading f e o b = record { start = f; end = e; outcome = o; bytes = b }
+
+-- A dump's packed bytes; none of a refused message.
+abbrev pub packedIn : Verdict → List ℕ
+packedIn (done o b p) = p
+packedIn (refused o) = []
 
 -- A dump's packed bytes go to the buffer's start, if they fit (else 13); every other byte is kept.
 abbrev pub readInto : ℕ → ℕ → Verdict → List ℕ → Effect Reading

@@ -1,6 +1,6 @@
 -- Demand 3. The damaged byte stands between data bytes; by its kind the dump is cut short, interrupted, of another length, or has one byte replaced,
 -- and all of these are refused. F0H starts the dump in every state and F7H leaves it, so nothing else changes.
-use mathlib.Core.Path.{_≡_, refl, sym, ap, _∙_}
+use mathlib.Core.Path.{_≡_, refl, sym, ap, _∙_, subst}
 use mathlib.Core.Bool.{false}
 use mathlib.Core.List.{List, [], _∷_, _++_, append-assoc}
 use mathlib.Core.Option.{none}
@@ -9,7 +9,7 @@ use native.Mathlib.Omega.{arith}
 use lib.ListN.{length, take, drop, getD, length-append}
 use lib.Seq.{append-snoc, split-at, length-take-le, take-at, drop-at, getD-at}
 use Rattle.answers.specs.Lists.{All}
-use Rattle.answers.specs.Table.{done, answerOf, outcome}
+use Rattle.answers.specs.Table.{Verdict, done, answerOf, outcome}
 use Rattle.answers.specs.Effect.{tested}
 use Rattle.answers.proofs.Lists.{all-append, all-left, all-right, all-weaken}
 use Rattle.answers.proofs.Rows.{row-silent, row-equal}
@@ -29,15 +29,12 @@ use Rattle.messages.specs.declared.kinds.Kind.the-variants.{Dump as ofDump}
 use Rattle.messages.specs.declared.kinds.Packed.the-variants.{Patch as aPatch}
 use Rattle.messages.specs.Kinds.{Filed, sizeOf}
 use Rattle.messages.specs.Judge.{misnumbered, judge}
-use Rattle.messages.specs.Layout.{dump}
-use Rattle.messages.proofs.Numbers.{never-13}
+use Rattle.messages.specs.Layout.{dump, behindFor, message, dumpGiven}
+use Rattle.messages.proofs.Numbers.{never-13, dump-given-refusals}
 use Rattle.messages.proofs.DumpLaws.{dumpRecord, wrong-length, dump-accepted}
 use Rattle.messages.proofs.Replaced.{replaced, suffix-refused}
-use Rattle.messages.proofs.Written.{seven-bits}
-use Rattle.writing.specs.Writing.{takenRows}
+use Rattle.messages.proofs.Written.{seven-bits, number-given}
 use Rattle.theorems.specs.Damage.{Damage, replace, lose, add, damaged, Allowed, Contained, Demand3}
-use Rattle.theorems.specs.RoundTrips.{aDump}
-use Rattle.theorems.proofs.Writers.{refusals}
 use Rattle.theorems.proofs.Readings.{Refused}
 use Rattle.theorems.proofs.Containment.{Laid, lay, contained}
 
@@ -189,8 +186,13 @@ module _ (k : Dump) (filed : Filed (ofDump k)) (patch : k .packed ≡ aPatch) (n
 
 -- Demand 3, whole: one damaged byte of a patch dump, in any stream, costs that dump alone.
 pub demand-3 : Demand3
-demand-3 k filed patch n p ok before behind =
-    let s = passed (takenRows k n p) (outcome 0 0) (refusals (aDump k n p)) (sym ok) refl in
+demand-3 k filed patch b p given ok before behind x allowed =
+    let n = behindFor (k .behind) b in
+    let s = passed (dumpGiven k n p) (outcome 0 0) (dump-given-refusals k n p) (sym ok) refl in
     let f = fields-pass p (rw patch at (s .1 .1)) in
-    demand k filed patch n (row-silent 8 (misnumbered (k .behind) n) (s .1 .0)) p
-    (row-equal 7 (length p) (sizeOf (k .packed)) (s .0) ∙ ap sizeOf patch) (f .0) (f .1) before behind
+    let number = row-silent 8 (misnumbered (k .behind) n) (s .1 .0) in
+    let long = row-equal 7 (length p) (sizeOf (k .packed)) (s .0) ∙ ap sizeOf patch in
+    let d = message (ofDump k) b p in
+    let its-record = ap (λ (c : List ℕ). done (k .opcode) c p) (number-given (k .behind) b given) in
+    subst (λ (v : Verdict). Contained before d (damaged x d) behind v) its-record
+    (demand k filed patch n number p long (f .0) (f .1) before behind x allowed)

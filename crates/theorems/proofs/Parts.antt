@@ -36,6 +36,12 @@ keep-constant t true (r ∷ l) a = rw (a .0, keep-constant t true l (a .1))
 keep-constant t false [] a = refl
 keep-constant t false (r ∷ l) a = rw (a .0) (keep-constant t false l (a .1))
 
+pub keep-all : (t : Report → Bool) (l : List Report) → All (λ r. t r ≡ true) l → keep t l ≡ l
+keep-all t l a = keep-constant t true l a
+
+pub keep-none : (t : Report → Bool) (l : List Report) → All (λ r. t r ≡ false) l → keep t l ≡ []
+keep-none t l a = keep-constant t false l a
+
 -- The list l has the parts x, y and z: what starts before m, from m on and before n, and from k on.
 pub record Parted (m n k : ℕ) (l x y z : List Report) : Type 0 where
   pub before : startBefore m l ≡ x

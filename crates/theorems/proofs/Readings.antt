@@ -10,31 +10,32 @@ use native.Mathlib.Omega.{arith}
 use lib.Dec.{leb}
 use lib.ListN.{length, drop}
 use Rattle.answers.specs.Lists.{All}
-use Rattle.answers.specs.Table.{Verdict, done, refused, answerOf}
-use Rattle.frames.specs.Stream.{Report, Reading, readInto, walk, read, reports}
+use Rattle.answers.specs.Table.{Verdict, done, refused, outcome, answerOf}
+use Rattle.answers.specs.Effect.{Effect}
+use Rattle.frames.specs.Stream.{Report, Reading, reading, readInto, walk, read, reports}
 use Rattle.frames.specs.Scan.{outside, scan}
 use Rattle.frames.proofs.Scan.{move, scan-moved}
 use Rattle.frames.proofs.Walk.{reread}
 use Rattle.messages.specs.Judge.{judge}
-use Rattle.theorems.specs.Damage.{keep, countedBack, readingBack, readings}
+use Rattle.theorems.specs.Damage.{keep, countedBack, readingBack, readings, Spoilt}
 use Rattle.theorems.proofs.Parts.{all-keep}
 
 -- What reading gives where the walk finds the report r.
-abbrev pub readingOf : List ℕ → Report → Reading
+abbrev pub readingOf : List ℕ → Report → Effect Reading
 readingOf lent r = readInto (r .start) (r .end) (r .verdict) lent
 
 reading-back : (n f e : ℕ) (v : Verdict) (lent : List ℕ) → readingBack n (readInto f e v lent) ≡ readInto (n - f) (n - e) v lent
 reading-back n f e (done o b p) lent = by-test (leb (length p) (length lent))
   where
     by-test : (t : Bool) → readingBack n (cond t
-        (record { start = f; end = e; answer = 0; detail = o; bytes = b; lent = p ++ drop (length p) lent })
-        (record { start = f; end = e; answer = 13; detail = 0; bytes = []; lent = lent }))
+        (record { result = reading f e (outcome 0 o) b; lent = p ++ drop (length p) lent })
+        (record { result = reading f e (outcome 13 0) []; lent = lent }))
         ≡ cond t
-        (record { start = n - f; end = n - e; answer = 0; detail = o; bytes = b; lent = p ++ drop (length p) lent })
-        (record { start = n - f; end = n - e; answer = 13; detail = 0; bytes = []; lent = lent })
+        (record { result = reading (n - f) (n - e) (outcome 0 o) b; lent = p ++ drop (length p) lent })
+        (record { result = reading (n - f) (n - e) (outcome 13 0) []; lent = lent })
     by-test true = refl
     by-test false = refl
-reading-back n f e (refused k d) lent = refl
+reading-back n f e (refused r) lent = refl
 
 -- Readings counted back are the readings of reports counted back.
 pub readings-back : (n : ℕ) (lent : List ℕ) (l : List Report) → map (readingBack n) (map (readingOf lent) l) ≡ map (readingOf lent) (map (countedBack n) l)
@@ -45,14 +46,13 @@ readings-back n lent (r ∷ l) = rw (reading-back n (r .start) (r .end) (r .verd
 abbrev pub Refused : Verdict → Type 0
 Refused v = (answerOf v ≡ 0 → ⊥) × (answerOf v ≡ 13 → ⊥)
 
-reading-refused : (lent : List ℕ) (f e : ℕ) (v : Verdict) → Refused v
-    → (readInto f e v lent .answer ≡ 0 → ⊥) × (readInto f e v lent .answer ≡ 13 → ⊥) × (readInto f e v lent .lent ≡ lent)
+reading-refused : (lent : List ℕ) (f e : ℕ) (v : Verdict) → Refused v → Spoilt lent (readInto f e v lent)
 reading-refused lent f e (done o b p) h = absurd (h .0 refl)
-reading-refused lent f e (refused n d) h = (h .0, h .1, refl)
+reading-refused lent f e (refused r) h = (h .0, h .1, refl)
 
 -- Reading a refused message gives its answer and leaves the buffer.
 pub readings-refused : (lent : List ℕ) (l : List Report) → All (λ r. Refused (r .verdict)) l
-    → All (λ r. (r .answer ≡ 0 → ⊥) × (r .answer ≡ 13 → ⊥) × (r .lent ≡ lent)) (map (readingOf lent) l)
+    → All (λ r. Spoilt lent r) (map (readingOf lent) l)
 readings-refused lent [] a = tt
 readings-refused lent (r ∷ l) a = (reading-refused lent (r .start) (r .end) (r .verdict) (a .0), readings-refused lent l (a .1))
 

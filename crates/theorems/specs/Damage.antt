@@ -7,16 +7,15 @@ use mathlib.Core.Bool.{cond}
 use lib.Dec.{leb, ltb}
 use lib.ListN.{length, take, drop, getD}
 use Rattle.answers.specs.Lists.{All}
-use Rattle.answers.specs.Table.{Verdict, done, answerOf, outcome}
-use Rattle.answers.specs.Effect.{tested}
-use Rattle.frames.specs.Stream.{Report, report, Reading, reports, read}
+use Rattle.answers.specs.Table.{Verdict, answerOf, outcome}
+use Rattle.answers.specs.Effect.{Effect, tested}
+use Rattle.frames.specs.Stream.{Report, report, Reading, reading, reports, read}
 use Rattle.messages.specs.declared.kinds.Dump.{Dump}
 use Rattle.messages.specs.declared.kinds.Kind.the-variants.{Dump as ofDump}
 use Rattle.messages.specs.declared.kinds.Packed.the-variants.{Patch as aPatch}
 use Rattle.messages.specs.Kinds.{Filed}
-use Rattle.messages.specs.Judge.{numberIn, judge}
-use Rattle.messages.specs.Layout.{dump}
-use Rattle.writing.specs.Writing.{takenRows}
+use Rattle.messages.specs.Judge.{judge}
+use Rattle.messages.specs.Layout.{message, recordFor, Given, givenRows}
 
 -- One byte replaced, lost, or one added in front of it.
 pub data Damage : Type 0 where
@@ -53,11 +52,13 @@ startFrom n = keep (λ r. leb n (r .start))
 abbrev pub countedBack : ℕ → Report → Report
 countedBack n r = report (n - r .start) (n - r .end) (r .verdict)
 
-abbrev pub readingBack : ℕ → Reading → Reading
-readingBack n r = record { start = n - r .start; end = n - r .end; answer = r .answer; detail = r .detail; bytes = r .bytes; lent = r .lent }
+abbrev pub readingBack : ℕ → Effect Reading → Effect Reading
+readingBack n e =
+    let r = e .result in
+    record { result = reading (n - r .start) (n - r .end) (r .outcome) (r .bytes); lent = e .lent }
 
 -- What reading a record gives at the start of each report of a list, lent the same buffer.
-abbrev pub readings : List ℕ → List ℕ → List Report → List Reading
+abbrev pub readings : List ℕ → List ℕ → List Report → List (Effect Reading)
 readings s lent = map (λ r. read judge s (r .start) lent)
 
 -- A stream that has the bytes d between others, and the three parts of its reports: those that start before d's F0H,
@@ -74,6 +75,10 @@ module _ (before d behind : List ℕ) where
 
   abbrev pub reportsAfter : List Report
   reportsAfter = startFrom (length before + length d) (reports judge stream)
+
+-- A reading with neither 0 nor 13, its buffer as it was.
+abbrev pub Spoilt : List ℕ → Effect Reading → Type 0
+Spoilt lent e = (e .result .outcome .answer ≡ 0 → ⊥) × (e .result .outcome .answer ≡ 13 → ⊥) × (e .lent ≡ lent)
 
 -- The dump d, or the damaged dump e in its place, between any bytes: what is the same and what is not.
 pub record Contained (before d e behind : List ℕ) (v : Verdict) : Type 0 where
@@ -95,10 +100,11 @@ pub record Contained (before d e behind : List ℕ) (v : Verdict) : Type 0 where
       ≡ map (readingBack (length (stream before d behind))) (readings (stream before d behind) lent (reportsAfter before d behind))
   -- reading at a report of the damaged dump gives neither 0 nor 13, and leaves the buffer as it was
   pub read-damaged : (lent : List ℕ)
-      → All (λ r. (r .answer ≡ 0 → ⊥) × (r .answer ≡ 13 → ⊥) × (r .lent ≡ lent)) (readings (stream before e behind) lent (reportsOfDump before e behind))
+      → All (λ r. Spoilt lent r) (readings (stream before e behind) lent (reportsOfDump before e behind))
 
--- Demand 3, whole: a patch dump of any kind, as its writer takes and writes it.
+-- Demand 3, whole: a dump of a patch, numbered or for the edit buffer, as its writer takes and writes it.
 abbrev pub Demand3 : Type 0
-Demand3 = (k : Dump) → Filed (ofDump k) → k .packed ≡ aPatch → (n : ℕ) (p : List ℕ) → tested (takenRows k n p) ≡ outcome 0 0
-    → (before behind : List ℕ) (x : Damage) → Allowed x (dump (k .opcode) n p)
-    → Contained before (dump (k .opcode) n p) (damaged x (dump (k .opcode) n p)) behind (done (k .opcode) (numberIn (k .behind) n) p)
+Demand3 = (k : Dump) → Filed (ofDump k) → k .packed ≡ aPatch
+    → (b p : List ℕ) → Given (ofDump k) b p → tested (givenRows (ofDump k) b p) ≡ outcome 0 0
+    → (before behind : List ℕ) (x : Damage) → Allowed x (message (ofDump k) b p)
+    → Contained before (message (ofDump k) b p) (damaged x (message (ofDump k) b p)) behind (recordFor (ofDump k) b p)
