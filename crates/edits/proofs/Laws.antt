@@ -11,17 +11,19 @@ use lib.ListN.{length, getD, set, length-set}
 use lib.Seq.{getD-set-same, getD-set-other}
 use borrow.Author.Tests.{lt-ltb, le-ltb, le-leb, ltb-true, ltb-false, eqb-true, eqb-false, ne-eqb}
 use Rattle.answers.specs.declared.Outcome.{Outcome}
-use Rattle.answers.specs.Table.{Row, done, refused, first, outcome, Silent}
+use Rattle.answers.specs.Table.{Row, done, first, outcome, Silent}
 use Rattle.answers.specs.Effect.{Effect, changed, tested}
 use Rattle.answers.proofs.Lists.{all-append}
 use Rattle.answers.proofs.Rows.{Refusals, numberOf, first-passed, done-passed, silent-parts}
 use Rattle.answers.proofs.Effects.{changed-kept, changed-silent}
-use Rattle.patch.specs.Fields.{between, inRange, placeOf}
+use Rattle.fields.specs.Fields.{fields, between, inRange, placeOf}
 use Rattle.patch.specs.Patch.{outFrom, firstOut, halfUsed, patchRows}
 use Rattle.patch.proofs.Tests.{patch-refusals, fields-pass, patch-length}
-use Rattle.patch.proofs.Rules.{found-place, one-in}
+use Rattle.fields.proofs.Rules.{found-place}
+use Rattle.patch.proofs.Runs.{one-in}
 use Rattle.patch.proofs.Accepted.{out-set, Whole, each-whole, patch-accepted}
 use Rattle.edits.specs.Edits.{extended, storedFor, editRows, busRows, withByte, withBus, applying, applyingBus}
+use Rattle.edits.specs.Done.{EditDone, BusDone}
 use Rattle.edits.proofs.Tests.{rows-at, rows-nowhere, edit-refusals, bus-refusals, value-inside, bus-number, bus-amount, bus-bytes, bus-whole}
 
 -- Below 64 a value stays as it is.
@@ -45,11 +47,11 @@ unfolding storedFor
 stored-extended n v h = simp (ne-eqb n 21 h)
 
 -- An extended amount always lies in the range of an amount: behind 8, the test for 14 never holds.
-pub amount-inside : (a : ℕ) → a ≤ 127 → between 0xC0 0x3F (extended a) ≡ true
-unfolding between
+pub amount-inside : (a : ℕ) → a ≤ 127 → inRange 105 (extended a) ≡ true
+unfolding inRange fields between
 amount-inside a h = go (ltb a 64) refl
   where
-    go : (t : Bool) → ltb a 64 ≡ t → between 0xC0 0x3F (extended a) ≡ true
+    go : (t : Bool) → ltb a 64 ≡ t → inRange 105 (extended a) ≡ true
     go true q =
         let l = ltb-true a 64 q in
         let e = extended-low a l in
@@ -86,18 +88,6 @@ pub bus-done : (b s a d : ℕ) (p : List ℕ) → applyingBus b s a d p .result 
     → first (busRows b s a d ++ patchRows p) (done 0 [] []) ≡ done 0 [] []
 unfolding applyingBus
 bus-done b s a d p e = answered-done (busRows b s a d) (withBus b s a d p) p (bus-refusals b s a d) e
-
--- A remote edit that is done: the byte at its parameter's place becomes the value as stored, every other byte stays, and the patch
--- afterwards passes its tests.
-pub record EditDone (n v : ℕ) (p : List ℕ) : Type 0 where
-  pub place : ℕ
-  pub found : placeOf n ≡ some place
-  pub inside : place < 134
-  pub answered : applying n v p .result ≡ outcome 0 0
-  pub stored : applying n v p .lent ≡ set p place (storedFor n v)
-  pub own : getD (applying n v p .lent) place 0 ≡ storedFor n v
-  pub others : (i : ℕ) → (i ≡ place → ⊥) → getD (applying n v p .lent) i 0 ≡ getD p i 0
-  pub accepted : tested (patchRows (applying n v p .lent)) ≡ outcome 0 0
 
 -- A patch whose rows say nothing has each byte in range, and whole buses.
 patch-whole : (p : List ℕ) → Silent (patchRows p) → (firstOut p ≡ none) × ((c : ℕ) → c < 10 → Whole p c)
@@ -149,20 +139,6 @@ edit-own-field n v p e = go (placeOf n) refl
         let z : _≡_ {A = ℕ} 0 1 = cc in
         absurd (omega arith)
     go (some k) q = edit-at n v k p q e
-
--- A matrix modulation edit that is done: its bus holds source, extended amount and destination, every other byte stays, and the patch
--- afterwards passes its tests.
-pub record BusDone (b s a d : ℕ) (p : List ℕ) : Type 0 where
-  pub bus : b ≤ 9
-  pub seven-bits : a ≤ 127
-  pub answered : applyingBus b s a d p .result ≡ outcome 0 0
-  pub stored : applyingBus b s a d p .lent ≡ withBus b s a d p
-  pub source : getD (applyingBus b s a d p .lent) (104 + 3 * b) 0 ≡ s
-  pub amount : getD (applyingBus b s a d p .lent) (105 + 3 * b) 0 ≡ extended a
-  pub destination : getD (applyingBus b s a d p .lent) (106 + 3 * b) 0 ≡ d
-  pub others : (i : ℕ) → (i ≡ 104 + 3 * b → ⊥) → (i ≡ 105 + 3 * b → ⊥) → (i ≡ 106 + 3 * b → ⊥)
-      → getD (applyingBus b s a d p .lent) i 0 ≡ getD p i 0
-  pub accepted : tested (patchRows (applyingBus b s a d p .lent)) ≡ outcome 0 0
 
 -- The three bytes of a bus of 134 bytes, stored.
 module _ (b s a d : ℕ) (p : List ℕ) (h : b ≤ 9) (l : length p ≡ 134) where

@@ -11,9 +11,11 @@ use borrow.Author.Tests.{ltb-false}
 use Rattle.answers.specs.Table.{Row, row, rowAt, done, first, outcome, Silent}
 use Rattle.answers.specs.Effect.{changed}
 use Rattle.answers.proofs.Rows.{Refusals, row-silent, row-at-silent}
-use Rattle.patch.specs.Fields.{inRange, placeOf}
+use Rattle.fields.specs.Fields.{inRange, placeOf}
 use Rattle.patch.specs.Patch.{outFrom, halfUsed, patchRows}
-use Rattle.edits.specs.Edits.{extended, storedFor, outAt, valueRows, editRows, busRows, withByte, applying}
+use Rattle.patch.proofs.Accepted.{three}
+use Rattle.fields.proofs.Buses.{bus-range}
+use Rattle.edits.specs.Edits.{extended, storedFor, outAt, valueRows, editRows, byteRows, busRows, withByte, applying}
 
 -- The rows of a remote edit whose parameter has a place are the tests of its value there.
 pub rows-at : (n v k : ℕ) → placeOf n ≡ some k → editRows n v ≡ valueRows k n v
@@ -38,6 +40,15 @@ pub applying-nowhere : (n v : ℕ) (p : List ℕ) → placeOf n ≡ none → app
 unfolding applying
 applying-nowhere n v p e =
     ap (λ (rows : List Row). changed 0 (withByte (placeOf n) (storedFor n v) p) p (first (rows ++ patchRows p) (done 0 [] []))) (rows-nowhere n v e)
+
+-- The tests of a bus's three bytes, by those of bus 0: all buses have the same ranges.
+pub byte-rows : (b s a d : ℕ) → b ≤ 9 → byteRows b s a d
+    ≡ rowAt 11 (cond (inRange 104 s) (cond (inRange 105 a) (cond (inRange 106 d) none (some (104 + 3 * b + 2))) (some (104 + 3 * b + 1))) (some (104 + 3 * b)))
+    ∷ rowAt 12 (cond (halfUsed s d) (some b) none) ∷ []
+byte-rows b s a d h =
+    let here : 104 + 3 * b + 0 ≡ 104 + 3 * b = omega arith in
+    let source = rw here at (bus-range b 0 s h (omega arith)) in
+    rw (three (104 + 3 * b) s a d, source, bus-range b 1 a h (omega arith), bus-range b 2 d h (omega arith))
 
 -- The rows of an edit are refusals: of a value at its place, of a remote edit, of a matrix modulation edit.
 pub value-refusals : (k n v : ℕ) → Refusals (valueRows k n v)

@@ -8,7 +8,7 @@ use lib.ListN.{set}
 use Rattle.answers.specs.declared.Outcome.{Outcome}
 use Rattle.answers.specs.Table.{Row, row, rowAt, done, first}
 use Rattle.answers.specs.Effect.{Effect, changed}
-use Rattle.patch.specs.Fields.{between, inRange, placeOf}
+use Rattle.fields.specs.Fields.{inRange, placeOf}
 use Rattle.patch.specs.Patch.{outFrom, halfUsed, patchRows}
 
 -- From seven bits to eight: bit 6 is copied into bit 7.
@@ -38,19 +38,19 @@ editRows parameter v =
     row 8 (missing (placeOf parameter) || ltb 127 v) ∷
     rowAt 11 (outAt (placeOf parameter) (storedFor parameter v)) ∷ []
 
--- The tests of the three bytes of a bus, the amount as stored: 11, then 12.
-unfoldable pub byteRows : ℕ → ℕ → ℕ → ℕ → List Row
+-- The tests of the three bytes of a bus, the amount as stored: 11, then 12. Its source stands at 104 + 3b, its amount and its destination
+-- behind it.
+abbrev pub byteRows : ℕ → ℕ → ℕ → ℕ → List Row
 byteRows bus source amount destination =
     rowAt 11 (outFrom (104 + 3 * bus) (source ∷ amount ∷ destination ∷ [])) ∷
     rowAt 12 (cond (halfUsed source destination) (some bus) none) ∷ []
 
--- The tests of a 0BH edit: 8, 14, 11, 12. A bus has its source at 104 + 3b, its amount and its destination behind it.
+-- The tests of a 0BH edit: 8, 14, 11, 12. Amounts have the range of place 105 on every bus.
 unfoldable pub busRows : ℕ → ℕ → ℕ → ℕ → List Row
 busRows bus source amount destination =
     row 8 (ltb 9 bus || ltb 127 amount) ∷
-    row 14 (not (between 0xC0 0x3F (extended amount))) ∷
-    rowAt 11 (outFrom (104 + 3 * bus) (source ∷ extended amount ∷ destination ∷ [])) ∷
-    rowAt 12 (cond (halfUsed source destination) (some bus) none) ∷ []
+    row 14 (not (inRange 105 (extended amount))) ∷
+    byteRows bus source (extended amount) destination
 
 -- A patch with one byte changed, at the place of a parameter.
 abbrev pub withByte : Option ℕ → ℕ → List ℕ → List ℕ

@@ -1,19 +1,28 @@
 // The two edits: their tests, which reading, writing and applying share, and applying one to a lent patch.
-// Below it: answers, patch.
+// Below it: answers, fields, patch.
 use answers::DONE;
 use answers::HALF_USED;
 use answers::NOT_ALLOWED;
 use answers::OUT_OF_RANGE;
 use answers::Outcome;
 use answers::WRONG_AMOUNT;
-use patch::fields::BytePlace;
-use patch::fields::FoundPlace;
-use patch::fields::Parameter;
-use patch::fields::lies_between;
+use fields::AMOUNT;
+use fields::AMOUNT_AT;
+use fields::BUSES;
+use fields::BytePlace;
+use fields::DESTINATION;
+use fields::DESTINATION_AT;
+use fields::FoundPlace;
+use fields::Parameter;
+use fields::SOURCE;
+use fields::SOURCE_AT;
+use fields::lies_between;
 ghost use mathlib.Core.Path.{_≡_};
 ghost use Prim.Native.Nat.{_≤_};
 ghost use Rattle.answers.specs.Effect.{Gives, tested};
 ghost use Rattle.edits.specs.Edits.{extended, storedFor, valueRows, editRows, byteRows, busRows, applying, applyingBus};
+
+const LAST_BUS: u8 = BUSES as u8 - 1;
 
 // From seven bits to eight: bit 6 is copied into bit 7. The callers below have seen that v is at most 127.
 fn extend(v: u8) -> u8
@@ -27,35 +36,35 @@ fn extend(v: u8) -> u8
 }
 
 // The byte that a remote edit stores: the extended value, but for parameter 21. The callers below have seen that v is at most 127.
-fn stored_for(parameter: u8, v: u8) -> u8
+fn stored_for(parameter: Parameter, v: u8) -> u8
     requires { ⌜ v ≤ 127 ⌝ }
-    ensures { λ r. ⌜ r ≡ storedFor parameter v ⌝ }
+    ensures { λ r. ⌜ r ≡ storedFor (parameter .0) v ⌝ }
 {
-    if parameter == 21 {
+    if parameter.0 == 21 {
         return v;
     }
     extend(v)
 }
 
 // The value of a remote edit at its parameter's place: 8, then 11.
-fn test_value(place: BytePlace, parameter: u8, value: u8) -> Outcome
-    ensures { λ r. ⌜ r ≡ tested (valueRows (place .0) parameter value) ⌝ }
+fn test_value(place: BytePlace, parameter: Parameter, value: u8) -> Outcome
+    ensures { λ r. ⌜ r ≡ tested (valueRows (place .0) (parameter .0) value) ⌝ }
 {
     if 127 < value {
         return answers::refused(NOT_ALLOWED, 0);
     }
     let k = place.0 as usize;
-    if !patch::fields::in_range(place, stored_for(parameter, value)) {
+    if !fields::in_range(place, stored_for(parameter, value)) {
         return answers::refused(OUT_OF_RANGE, k);
     }
     answers::done(0)
 }
 
 // The tests of a remote edit: 8, then 11 with its field's place.
-pub fn test_edit(parameter: u8, value: u8) -> Outcome
-    ensures { λ r. ⌜ r ≡ tested (editRows parameter value) ⌝ }
+pub fn test_edit(parameter: Parameter, value: u8) -> Outcome
+    ensures { λ r. ⌜ r ≡ tested (editRows (parameter .0) value) ⌝ }
 {
-    let found = patch::fields::place_of(Parameter(parameter));
+    let found = fields::place_of(parameter);
     match found {
         FoundPlace::At(place) => test_value(place, parameter, value),
         FoundPlace::Nothing => answers::refused(NOT_ALLOWED, 0),
@@ -69,17 +78,17 @@ fn test_bytes(bus: u8, source: u8, amount: u8, destination: u8) -> Outcome
     ensures { λ r. ⌜ r ≡ tested (byteRows bus source amount destination) ⌝ }
 {
     let b = bus as usize;
-    let k = 104 + 3 * b;
-    if !lies_between(0, 20, source) {
+    let k = SOURCE_AT + 3 * b;
+    if !lies_between(SOURCE.2, SOURCE.3, source) {
         return answers::refused(OUT_OF_RANGE, k);
     }
-    if !lies_between(0xC0, 0x3F, amount) {
+    if !lies_between(AMOUNT.2, AMOUNT.3, amount) {
         return answers::refused(OUT_OF_RANGE, k + 1);
     }
-    if !lies_between(0, 31, destination) {
+    if !lies_between(DESTINATION.2, DESTINATION.3, destination) {
         return answers::refused(OUT_OF_RANGE, k + 2);
     }
-    if patch::checks::half_used(source, destination) {
+    if patch::half_used(source, destination) {
         return answers::refused(HALF_USED, b);
     }
     answers::done(0)
@@ -89,14 +98,14 @@ fn test_bytes(bus: u8, source: u8, amount: u8, destination: u8) -> Outcome
 pub fn test_bus_edit(bus: u8, source: u8, amount: u8, destination: u8) -> Outcome
     ensures { λ r. ⌜ r ≡ tested (busRows bus source amount destination) ⌝ }
 {
-    if 9 < bus {
+    if LAST_BUS < bus {
         return answers::refused(NOT_ALLOWED, 0);
     }
     if 127 < amount {
         return answers::refused(NOT_ALLOWED, 0);
     }
     let stored = extend(amount);
-    if !lies_between(0xC0, 0x3F, stored) {
+    if !lies_between(AMOUNT.2, AMOUNT.3, stored) {
         return answers::refused(WRONG_AMOUNT, 0);
     }
     test_bytes(bus, source, stored, destination)
@@ -104,23 +113,23 @@ pub fn test_bus_edit(bus: u8, source: u8, amount: u8, destination: u8) -> Outcom
 
 // Applies a remote edit to a lent patch: its own 8 and 11, then the patch's 7, 11 and 12. Done, the field's byte is the value as
 // stored and every other byte keeps its value; refused, every byte does.
-pub fn apply_edit(p: &mut [u8], parameter: u8, value: u8) -> Outcome
-    ensures { λ r. ⌜ Gives (applying parameter value (now (p .entry))) r (now (p .exit)) ⌝ }
+pub fn apply_edit(p: &mut [u8], parameter: Parameter, value: u8) -> Outcome
+    ensures { λ r. ⌜ Gives (applying (parameter .0) value (now (p .entry))) r (now (p .exit)) ⌝ }
 {
-    let FoundPlace::At(place) = patch::fields::place_of(Parameter(parameter)) else {
+    let FoundPlace::At(place) = fields::place_of(parameter) else {
         return answers::refused(NOT_ALLOWED, 0);
     };
-    let k = place.0 as usize;
+    let at = place.0 as usize;
     let edit = test_value(place, parameter, value);
     if edit.answer != DONE {
         return edit;
     }
-    let tested = patch::checks::test(p);
-    if tested.answer != DONE {
-        return tested;
+    let before = patch::test(p);
+    if before.answer != DONE {
+        return before;
     }
     let stored = stored_for(parameter, value);
-    p[k] = stored;
+    p[at] = stored;
     answers::done(0)
 }
 
@@ -133,14 +142,14 @@ pub fn apply_bus_edit(p: &mut [u8], bus: u8, source: u8, amount: u8, destination
     if bus_edit.answer != DONE {
         return bus_edit;
     }
-    let tested = patch::checks::test(p);
+    let tested = patch::test(p);
     if tested.answer != DONE {
         return tested;
     }
     let b = bus as usize;
     let stored = extend(amount);
-    p[104 + 3 * b] = source;
-    p[105 + 3 * b] = stored;
-    p[106 + 3 * b] = destination;
+    p[SOURCE_AT + 3 * b] = source;
+    p[AMOUNT_AT + 3 * b] = stored;
+    p[DESTINATION_AT + 3 * b] = destination;
     answers::done(0)
 }

@@ -2,11 +2,11 @@
 use mathlib.Core.Path.{_≡_, refl, sym, ap, _∙_}
 use mathlib.Core.Option.{Option, none, some}
 use Prim.Native.Nat.{ℕ}
-use Rattle.patch.specs.Columns.{foundPlace, foundParameter, orNone}
-use Rattle.patch.specs.declared.fields.FoundPlace.{FoundPlace}
-use Rattle.patch.specs.declared.fields.FoundPlace.the-variants.{At, Nothing as no-place}
-use Rattle.patch.specs.declared.fields.FoundParameter.{FoundParameter}
-use Rattle.patch.specs.declared.fields.FoundParameter.the-variants.{Of, Nothing as no-parameter}
+use Rattle.fields.specs.Columns.{foundPlace, foundParameter, orNone}
+use Rattle.fields.specs.declared.FoundPlace.{FoundPlace}
+use Rattle.fields.specs.declared.FoundPlace.the-variants.{At, Nothing as no-place}
+use Rattle.fields.specs.declared.FoundParameter.{FoundParameter}
+use Rattle.fields.specs.declared.FoundParameter.the-variants.{Of, Nothing as no-parameter}
 
 -- What was found, f, is the case g, and what the definition finds.
 told : {F : Type 0} (byteOf : F → ℕ) (found : Option ℕ → F) → ((o : Option ℕ) → byteOf (found o) ≡ orNone o)

@@ -2,10 +2,10 @@
 // itself with its own contract. A slice passes as a pointer and a length; a struct is returned by value, laid out as C lays it out.
 // Below it: all the other libraries but theorems and cursor.
 use answers::Outcome;
-use patch::fields::BytePlace;
-use patch::fields::FoundParameter;
-use patch::fields::FoundPlace;
-use patch::fields::Parameter;
+use fields::BytePlace;
+use fields::FoundParameter;
+use fields::FoundPlace;
+use fields::Parameter;
 use reading::listing::Listed;
 use reading::recording::Reading;
 use reading::walking::Report;
@@ -16,9 +16,9 @@ ghost use Rattle.answers.specs.Effect.{Gives, tested};
 ghost use Rattle.edits.specs.Edits.{applying, applyingBus};
 ghost use Rattle.messages.specs.declared.kinds.Kind.the-variants.{Dump as ofDump, Short as ofShort};
 ghost use Rattle.messages.specs.Kinds.{singlePatch, masterParameters, editBuffer, remoteEdit, busEdit};
-ghost use Rattle.patch.specs.Columns.{orNone};
-ghost use Rattle.patch.specs.Fields.{placeOf, parameterOf};
-ghost use Rattle.patch.specs.Names.{naming, showing};
+ghost use Rattle.fields.specs.Columns.{orNone};
+ghost use Rattle.fields.specs.Fields.{placeOf, parameterOf};
+ghost use Rattle.names.specs.Names.{naming, showing};
 ghost use Rattle.patch.specs.Patch.{patchRows};
 ghost use Rattle.reading.specs.Rooms.{Makes};
 ghost use Rattle.reading.specs.Told.{walked, reads};
@@ -56,7 +56,7 @@ pub extern "C" fn matrix_reports(s: &[u8], place: usize, room: &mut [usize]) -> 
 pub extern "C" fn matrix_test_patch(p: &[u8]) -> Outcome
     ensures { λ r. ⌜ r ≡ tested (patchRows (now (p .entry))) ⌝ }
 {
-    patch::checks::test(p)
+    patch::test(p)
 }
 
 // The byte place of a parameter, 255 where it has none.
@@ -64,7 +64,7 @@ pub extern "C" fn matrix_test_patch(p: &[u8]) -> Outcome
 pub extern "C" fn matrix_place_of(parameter: u8) -> u8
     ensures { λ r. ⌜ r ≡ orNone (placeOf parameter) ⌝ }
 {
-    match patch::fields::place_of(Parameter(parameter)) {
+    match fields::place_of(Parameter(parameter)) {
         FoundPlace::At(place) => place.0,
         FoundPlace::Nothing => NONE,
     }
@@ -75,7 +75,7 @@ pub extern "C" fn matrix_place_of(parameter: u8) -> u8
 pub extern "C" fn matrix_parameter_of(place: u8) -> u8
     ensures { λ r. ⌜ r ≡ orNone (parameterOf place) ⌝ }
 {
-    match patch::fields::parameter_of(BytePlace(place)) {
+    match fields::parameter_of(BytePlace(place)) {
         FoundParameter::Of(parameter) => parameter.0,
         FoundParameter::Nothing => NONE,
     }
@@ -86,7 +86,7 @@ pub extern "C" fn matrix_parameter_of(place: u8) -> u8
 pub extern "C" fn matrix_set_name(p: &mut [u8], text: &[u8]) -> Outcome
     ensures { λ r. ⌜ Gives (naming (now (p .entry)) (now (text .entry))) r (now (p .exit)) ⌝ }
 {
-    patch::names::set_name(p, text)
+    names::set_name(p, text)
 }
 
 // Writes the eight characters of a patch's name.
@@ -94,7 +94,7 @@ pub extern "C" fn matrix_set_name(p: &mut [u8], text: &[u8]) -> Outcome
 pub extern "C" fn matrix_show_name(p: &[u8], out: &mut [u8]) -> Outcome
     ensures { λ r. ⌜ Gives (showing (now (p .entry)) (now (out .entry))) r (now (out .exit)) ⌝ }
 {
-    patch::names::show_name(p, out)
+    names::show_name(p, out)
 }
 
 // Applies a remote edit to a patch.
@@ -102,7 +102,7 @@ pub extern "C" fn matrix_show_name(p: &[u8], out: &mut [u8]) -> Outcome
 pub extern "C" fn matrix_apply_edit(p: &mut [u8], parameter: u8, value: u8) -> Outcome
     ensures { λ r. ⌜ Gives (applying parameter value (now (p .entry))) r (now (p .exit)) ⌝ }
 {
-    edits::apply_edit(p, parameter, value)
+    edits::apply_edit(p, Parameter(parameter), value)
 }
 
 // Applies a matrix modulation edit to a patch.
@@ -148,7 +148,7 @@ pub extern "C" fn matrix_write_master(m: &[u8], out: &mut [u8]) -> Outcome
 pub extern "C" fn matrix_write_edit(parameter: u8, value: u8, out: &mut [u8]) -> Outcome
     ensures { λ r. ⌜ Gives (writing (ofShort remoteEdit) (parameter ∷ value ∷ []) [] (now (out .entry))) r (now (out .exit)) ⌝ }
 {
-    writing::write_edit(parameter, value, out)
+    writing::write_edit(Parameter(parameter), value, out)
 }
 
 // Writes a matrix modulation edit.

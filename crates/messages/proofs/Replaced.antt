@@ -16,7 +16,7 @@ use Rattle.frames.specs.Bytes.{framed}
 use Rattle.nibbles.specs.Nibbles.{nibbles, pack, sum}
 use Rattle.nibbles.proofs.Laws.{length-nibbles, pack-nibbles, pack-low, pack-high, low-changes-sum, high-changes-sum, Position, at-low, at-high, at-sum, position}
 use Rattle.patch.specs.Patch.{firstOut}
-use Rattle.patch.proofs.Rules.{fields-bytes, fields-apart}
+use Rattle.patch.proofs.Runs.{fields-bytes, fields-apart}
 use Rattle.messages.specs.Kinds.{aPatch, Dump, ofDump, Filed, sizeOf}
 use Rattle.messages.specs.Judge.{packedRows, judge}
 use Rattle.messages.specs.Layout.{messageOf}

@@ -16,10 +16,11 @@ use Rattle.answers.proofs.Rows.{first-passed, row-silent, row-equal, row-at-sil
 use Rattle.frames.specs.Bytes.{framed}
 use Rattle.nibbles.specs.Nibbles.{nibbles, sum}
 use Rattle.nibbles.proofs.Laws.{nibbles-narrow, sum-below}
-use Rattle.patch.specs.Fields.{placeOf}
+use Rattle.fields.specs.Fields.{placeOf}
 use Rattle.patch.specs.Patch.{firstOut}
-use Rattle.patch.proofs.Rules.{found-place, parameter-number, one-in, fields-bytes}
-use Rattle.patch.proofs.Buses.{source-below, destination-below}
+use Rattle.fields.proofs.Rules.{found-place, parameter-number}
+use Rattle.patch.proofs.Runs.{one-in, fields-bytes}
+use Rattle.fields.proofs.Buses.{source-below, destination-below}
 use Rattle.edits.specs.Edits.{extended, editRows, busRows}
 use Rattle.edits.proofs.Tests.{rows-at, rows-nowhere, value-small, bus-number, bus-amount, bus-bytes}
 use Rattle.messages.specs.Kinds.{Behind, numberTo, always, Packed, aPatch, anyBytes, Operands, anEdit, aBusEdit, Short, Kind, ofDump, ofShort, unknown, countOf, sizeOf, opcodeOf, Filed}

@@ -45,7 +45,7 @@ pub fn test_packed(packed: Packed, bytes: &[u8]) -> Outcome
     ensures { λ r. ⌜ r ≡ tested (lentRows packed (now (bytes .entry))) ⌝ }
 {
     match packed {
-        Packed::Patch => patch::checks::test(bytes),
+        Packed::Patch => patch::test(bytes),
         Packed::AnyBytes(count) => {
             if bytes.len() != count {
                 return answers::refused(WRONG_LENGTH, 0);
@@ -65,7 +65,7 @@ fn check_patch(sent: &[u8], sum: u8) -> Outcome
     if d.answer != DONE {
         return d;
     }
-    patch::checks::test(&packed)
+    patch::test(&packed)
 }
 
 // The data of so many bytes of any value: 9, 10. The caller below has seen the length, and lends a room for the packed bytes.

@@ -9,6 +9,7 @@ use crate::kinds::count_of;
 use answers::DONE;
 use answers::Outcome;
 use answers::WRONG_LENGTH;
+use fields::Parameter;
 ghost use mathlib.Core.Path.{_≡_};
 ghost use lib.ListN.{getD};
 ghost use Rattle.answers.specs.Effect.{tested};
@@ -26,7 +27,7 @@ pub fn test_operands(operands: Operands, bytes: &[u8]) -> Outcome
         return answers::refused(WRONG_LENGTH, 0);
     }
     match operands {
-        Operands::Edit => edits::test_edit(bytes[0], bytes[1]),
+        Operands::Edit => edits::test_edit(Parameter(bytes[0]), bytes[1]),
         Operands::BusEdit => edits::test_bus_edit(bytes[0], bytes[1], bytes[2], bytes[3]),
     }
 }

@@ -13,10 +13,10 @@ use borrow.Author.Tests.{eqb-true, eqb-false}
 use Rattle.answers.specs.Table.{outcome}
 use Rattle.answers.specs.Effect.{tested}
 use Rattle.answers.proofs.Rows.{tested-passed}
-use Rattle.patch.specs.Fields.{inRange}
+use Rattle.fields.specs.Fields.{inRange}
 use Rattle.patch.specs.Patch.{outFrom, firstOut, halfUsed, halfFrom, patchRows}
 use Rattle.patch.proofs.Tests.{patch-silent}
-use Rattle.patch.proofs.Rules.{one-in, one-more-in}
+use Rattle.patch.proofs.Runs.{one-in, one-more-in}
 
 -- The lowest place out of range among three bytes.
 pub three : (k s a d : ℕ) → outFrom k (s ∷ a ∷ d ∷ [])

@@ -1,12 +1,5 @@
+pub mod Runs
 pub mod Steps
 pub mod Tests
-pub mod Below
-pub mod Between
-pub mod Rules
 pub mod Accepted
-pub mod NameLaws
-pub mod Buses
-pub mod Widths
-pub mod Words
 pub mod Passes
-pub mod Places

@@ -9,11 +9,10 @@ use lib.Dec.{ltb}
 use lib.ListN.{length, getD, drop}
 use borrow.Author.Count.{below-more}
 use borrow.Author.Tests.{ltb-true, ltb-false, le-leb}
-use Rattle.patch.specs.Fields.{leastAt, inRange}
+use Rattle.fields.specs.Fields.{inRange}
 use Rattle.patch.specs.Patch.{outFrom, firstOut, halfUsed, halfFrom, firstHalf}
 use Rattle.patch.specs.Passes.{InRange}
-use Rattle.patch.specs.Columns.{widthAt}
-use Rattle.patch.proofs.Widths.{column, in-range-columns}
+use Rattle.fields.proofs.Widths.{leasts, widths, in-range-columns}
 use Rattle.patch.proofs.Steps.{byte-in, bytes-done, bus-whole, buses-done}
 
 -- One byte more.
@@ -21,10 +20,9 @@ pub in-range-more : (p : List ℕ) (i k : ℕ) → InRange i k p → inRange k (
 in-range-more p i k h e j l u = below-more (λ (n : ℕ). i ≤ n → inRange n (getD p n 0) ≡ true) k (λ n v m. h n m v) (λ m. e) j u l
 
 -- One byte more, by the columns: it is not further above its least value than its width.
-pub columns-more : (least width : List ℕ) → least ≡ column leastAt 134 0 → width ≡ column widthAt 134 0 → (p : List ℕ) (i k r : ℕ) → k < 134
-    → getD p k 0 < 256 → r < 256 → (r + getD least k 0) % 256 ≡ getD p k 0 → r ≤ getD width k 0 → InRange i k p → InRange i (k + 1) p
-columns-more least width el ew p i k r h hb hr e l q =
-    in-range-more p i k q (in-range-columns least width el ew k (getD p k 0) r h hb hr e ∙ le-leb r (getD width k 0) l)
+pub columns-more : (p : List ℕ) (i k r : ℕ) → k < 134 → getD p k 0 < 256 → r < 256 → (r + getD leasts k 0) % 256 ≡ getD p k 0
+    → r ≤ getD widths k 0 → InRange i k p → InRange i (k + 1) p
+columns-more p i k r h hb hr e l q = in-range-more p i k q (in-range-columns k (getD p k 0) r h hb hr e ∙ le-leb r (getD widths k 0) l)
 
 -- Two passes, the second from no later than where the first ends.
 pub in-range-join : (p : List ℕ) (i n m l : ℕ) → m ≤ n → InRange i n p → InRange m l p → InRange i l p

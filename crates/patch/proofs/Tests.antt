@@ -1,5 +1,5 @@
 -- The tests of a patch as rows of a table of answers: what the searches found, and what rows that say nothing tell of the patch.
-use mathlib.Core.Path.{_≡_, refl, ap, sym, _∙_}
+use mathlib.Core.Path.{_≡_, refl, ap, _∙_}
 use mathlib.Core.List.{List, [], _∷_}
 use mathlib.Core.Option.{Option, none, some}
 use Prim.Native.Nat.{ℕ}
@@ -9,11 +9,8 @@ use borrow.Author.Tests.{eq-eqb}
 use Rattle.answers.specs.Table.{rowAt, Silent}
 use Rattle.answers.specs.Effect.{tested}
 use Rattle.answers.proofs.Rows.{Refusals, row-at-silent, row-equal}
-use Rattle.patch.specs.declared.checks.Failed.the-variants.{At as failed-at, Nowhere}
-use Rattle.patch.specs.declared.fields.BytePlace.{BytePlace}
-use Rattle.patch.specs.declared.fields.FoundPlace.{FoundPlace}
-use Rattle.patch.specs.declared.fields.FoundPlace.the-variants.{At, Nothing as no-place}
-use Rattle.patch.specs.Columns.{foundAt, foundPlace}
+use Rattle.patch.specs.declared.Failed.the-variants.{At as failed-at, Nowhere}
+use Rattle.patch.specs.Passes.{foundAt}
 use Rattle.patch.specs.Patch.{firstOut, firstHalf, fieldRows, patchRows}
 
 -- A search that found a place, or a bus, found the definition's.
@@ -25,23 +22,6 @@ found-some none k e = let z : _≡_ {A = ℕ} 0 1 = cc in absurd (omega arith)
 pub found-none : (o : Option ℕ) → Nowhere ≡ foundAt o → o ≡ none
 found-none (some j) e = let z : _≡_ {A = ℕ} 0 1 = cc in absurd (omega arith)
 found-none none e = refl
-
--- The place that a lookup found.
-abbrev placed : FoundPlace → Option ℕ
-placed (At r) = some (r .0)
-placed no-place = none
-
-placed-back : (o : Option ℕ) → placed (foundPlace o) ≡ o
-placed-back none = refl
-placed-back (some k) = refl
-
--- A lookup that found a place found the definition's.
-pub found-there : (o : Option ℕ) (f : FoundPlace) (r : BytePlace) → f ≡ At r → f ≡ foundPlace o → o ≡ some (r .0)
-found-there o f r e q = sym (placed-back o) ∙ sym (ap placed q) ∙ ap placed e
-
--- One that found none: nor does the definition.
-pub found-nowhere : (o : Option ℕ) (f : FoundPlace) → f ≡ no-place → f ≡ foundPlace o → o ≡ none
-found-nowhere o f e q = sym (placed-back o) ∙ sym (ap placed q) ∙ ap placed e
 
 -- What a patch's fields are answered, by what the two searches found.
 pub fields-answer : (p : List ℕ) (out half : Option ℕ) → firstOut p ≡ out → firstHalf p ≡ half

@@ -7,7 +7,7 @@ use Prim.Native.Nat.{ℕ, zero, suc, _+_, _*_}
 use lib.Dec.{eqb}
 use lib.ListN.{length, getD}
 use Rattle.answers.specs.Table.{Row, row, rowAt}
-use Rattle.patch.specs.Fields.{inRange}
+use Rattle.fields.specs.Fields.{size, inRange}
 
 -- The lowest place out of range among bytes the first of which stands at place k.
 unfoldable pub outFrom : ℕ → List ℕ → Option ℕ
@@ -34,6 +34,10 @@ firstHalf = halfFrom 10 0
 abbrev pub fieldRows : List ℕ → List Row
 fieldRows p = rowAt 11 (firstOut p) ∷ rowAt 12 (firstHalf p) ∷ []
 
+-- The test of a lent patch's length.
+abbrev pub lengthRow : List ℕ → Row
+lengthRow p = row 7 (not (eqb (length p) size))
+
 -- The test of a lent patch: 7, then 11, then 12.
 abbrev pub patchRows : List ℕ → List Row
-patchRows p = row 7 (not (eqb (length p) 134)) ∷ fieldRows p
+patchRows p = lengthRow p ∷ fieldRows p

@@ -1,6 +1,190 @@
-// The 134 bytes of a patch: the field table, the tests of a patch, its name.
-// Below it: answers.
-pub mod checks;
-mod columns;
-pub mod fields;
-pub mod names;
+// The tests of a patch: 7, then 11 with the lowest place, then 12 with the lowest bus.
+// Below it: answers, fields.
+use answers::HALF_USED;
+use answers::OUT_OF_RANGE;
+use answers::Outcome;
+use answers::WRONG_LENGTH;
+use fields::BUSES;
+use fields::DESTINATION_AT;
+use fields::NAME;
+use fields::NAME_SIZE;
+use fields::PLACES;
+use fields::SOURCE_AT;
+use fields::columns::LEAST;
+use fields::columns::WIDTH;
+ghost use mathlib.Core.Path.{_≡_};
+ghost use mathlib.Core.Bool.{true};
+ghost use mathlib.Core.Option.{none};
+ghost use lib.ListN.{length};
+ghost use Rattle.answers.specs.Effect.{tested};
+ghost use Rattle.patch.specs.Patch.{firstOut, firstHalf, halfUsed, fieldRows, patchRows};
+ghost use Rattle.patch.specs.Passes.{InRange, foundAt};
+
+// How many bytes a patch has.
+pub const SIZE: usize = PLACES;
+
+// The lowest place, or bus, at which a test fails.
+enum Failed {
+    At(usize),
+    Nowhere,
+}
+
+// One of source and destination is zero and the other not.
+pub fn half_used(source: u8, destination: u8) -> bool
+    ensures { λ r. ⌜ r ≡ halfUsed source destination ⌝ }
+{
+    if source == 0 {
+        destination != 0
+    } else {
+        destination == 0
+    }
+}
+
+// `true` only where the name's bytes, which go from 0 on, lie in their ranges: without a branch, so that they are seen at once. The callers
+// of this and of the passes below have tested the length.
+fn name_in_range(p: &[u8]) -> bool
+    requires { ⌜ length (now p) ≡ 134 ⌝ }
+    ensures { λ r. ⌜ (r ≡ true → InRange 0 8 (now (p .entry))) ⌝ }
+{
+    let mut out: u8 = 0;
+    let mut k: usize = 0;
+    while k < NAME_SIZE {
+        if NAME.3 < p[k] {
+            out = 1;
+            k += 1;
+        } else {
+            k += 1;
+        }
+    }
+    out == 0
+}
+
+// The same of the bytes behind the name, sixteen at once: none is further above its least value than its width. The last sixteen
+// begin before the others end, so that they are sixteen too.
+fn rest_in_range(p: &[u8]) -> bool
+    requires { ⌜ length (now p) ≡ 134 ⌝ }
+    ensures { λ r. ⌜ (r ≡ true → InRange 8 134 (now (p .entry))) ⌝ }
+{
+    let least = LEAST;
+    let width = WIDTH;
+    let mut out: u8 = 0;
+    let mut i: usize = NAME_SIZE;
+    while i < 120 {
+        if width[i] < std::num::wrapping_sub_u8(p[i], least[i]) {
+            out = 1;
+            i += 1;
+        } else {
+            i += 1;
+        }
+    }
+    i = 118;
+    while i < SIZE {
+        if width[i] < std::num::wrapping_sub_u8(p[i], least[i]) {
+            out = 1;
+            i += 1;
+        } else {
+            i += 1;
+        }
+    }
+    out == 0
+}
+
+// `true` only where every byte lies in the range of its field.
+fn all_in_range(p: &[u8]) -> bool
+    requires { ⌜ length (now p) ≡ 134 ⌝ }
+    ensures { λ r. ⌜ (r ≡ true → firstOut (now (p .entry)) ≡ none) ⌝ }
+{
+    if !name_in_range(p) {
+        return false;
+    }
+    rest_in_range(p)
+}
+
+// The lowest place out of range. Its callers have tested the length.
+fn first_out(p: &[u8]) -> Failed
+    requires { ⌜ length (now p) ≡ 134 ⌝ }
+    ensures { λ r. ⌜ r ≡ foundAt (firstOut (now (p .entry))) ⌝ }
+{
+    if all_in_range(p) {
+        return Failed::Nowhere;
+    }
+    let least = LEAST;
+    let width = WIDTH;
+    let mut k: usize = 0;
+    while k < SIZE {
+        if width[k] < std::num::wrapping_sub_u8(p[k], least[k]) {
+            return Failed::At(k);
+        }
+        k += 1;
+    }
+    Failed::Nowhere
+}
+
+// `true` only where no bus is half used. Each of 28 bytes is seen with the second behind it, many at once: every third is a source,
+// with its destination.
+fn buses_whole(p: &[u8]) -> bool
+    requires { ⌜ length (now p) ≡ 134 ⌝ }
+    ensures { λ r. ⌜ (r ≡ true → firstHalf (now (p .entry)) ≡ none) ⌝ }
+{
+    let mut half: u8 = 0;
+    let mut j: usize = 0;
+    while j < 28 {
+        let source = p[SOURCE_AT + j];
+        let destination = p[DESTINATION_AT + j];
+        if half_used(source, destination) {
+            if j % 3 == 0 {
+                half = 1;
+                j += 1;
+            } else {
+                j += 1;
+            }
+        } else {
+            j += 1;
+        }
+    }
+    half == 0
+}
+
+// The lowest bus half used. Its callers have tested the length.
+fn first_half(p: &[u8]) -> Failed
+    requires { ⌜ length (now p) ≡ 134 ⌝ }
+    ensures { λ r. ⌜ r ≡ foundAt (firstHalf (now (p .entry))) ⌝ }
+{
+    if buses_whole(p) {
+        return Failed::Nowhere;
+    }
+    let mut b: usize = 0;
+    while b < BUSES {
+        if half_used(p[SOURCE_AT + 3 * b], p[DESTINATION_AT + 3 * b]) {
+            return Failed::At(b);
+        }
+        b += 1;
+    }
+    Failed::Nowhere
+}
+
+// The fields of 134 bytes: 11, then 12. Its callers have tested the length.
+pub(crate) fn test_fields(p: &[u8]) -> Outcome
+    requires { ⌜ length (now p) ≡ 134 ⌝ }
+    ensures { λ r. ⌜ r ≡ tested (fieldRows (now (p .entry))) ⌝ }
+{
+    let out = first_out(p);
+    if let Failed::At(k) = out {
+        return answers::refused(OUT_OF_RANGE, k);
+    }
+    let half = first_half(p);
+    if let Failed::At(b) = half {
+        return answers::refused(HALF_USED, b);
+    }
+    answers::done(0)
+}
+
+// The test of a lent patch: 7, then 11 with the lowest place, then 12 with the lowest bus; done with detail 0.
+pub fn test(p: &[u8]) -> Outcome
+    ensures { λ r. ⌜ r ≡ tested (patchRows (now (p .entry))) ⌝ }
+{
+    if p.len() != SIZE {
+        return answers::refused(WRONG_LENGTH, 0);
+    }
+    test_fields(p)
+}

@@ -1,8 +1,8 @@
 // Prints the field table, a line for each byte of a patch: place, parameter, least and greatest value.
 // Every number is asked of the patch crate's lookups.
+use fields::BytePlace;
+use fields::FoundParameter;
 use libc::STDOUT_FILENO;
-use patch::fields::BytePlace;
-use patch::fields::FoundParameter;
 ghost use Prim.Native.Nat.{_≤_};
 ghost use lib.ListN.{length};
 ghost use Rattle.io.specs.Counts.{Counts};
@@ -52,7 +52,7 @@ fn put_value(out: &mut [u8], at: usize, signed: bool, b: u8) -> usize
 fn put_parameter(out: &mut [u8], at: usize, place: u8) -> usize
     ensures { λ r. ⌜ r ≤ length (now (out .entry)) ⌝ }
 {
-    let found = patch::fields::parameter_of(BytePlace(place));
+    let found = fields::parameter_of(BytePlace(place));
     if let FoundParameter::Of(parameter) = found {
         return put_number(out, at, parameter.0);
     }
@@ -63,8 +63,8 @@ fn put_parameter(out: &mut [u8], at: usize, place: u8) -> usize
 fn put_line(out: &mut [u8], at: usize, place: u8) -> usize
     ensures { λ r. ⌜ r ≤ length (now (out .entry)) ⌝ }
 {
-    let least = patch::fields::least_of(BytePlace(place));
-    let greatest = patch::fields::greatest_of(BytePlace(place));
+    let least = fields::least_of(BytePlace(place));
+    let greatest = fields::greatest_of(BytePlace(place));
     let signed = greatest < least;
     let a = put_number(out, at, place);
     let b = put(out, a, b' ');

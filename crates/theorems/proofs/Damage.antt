@@ -23,7 +23,7 @@ use Rattle.nibbles.specs.Nibbles.{nibbles, sum}
 use Rattle.nibbles.proofs.Laws.{length-nibbles, nibbles-narrow, sum-below}
 use Rattle.patch.specs.Patch.{firstOut, firstHalf}
 use Rattle.patch.proofs.Tests.{fields-pass, fields-silent}
-use Rattle.patch.proofs.Rules.{fields-bytes}
+use Rattle.patch.proofs.Runs.{fields-bytes}
 use Rattle.messages.specs.declared.kinds.Dump.{Dump}
 use Rattle.messages.specs.declared.kinds.Kind.the-variants.{Dump as ofDump}
 use Rattle.messages.specs.declared.kinds.Packed.the-variants.{Patch as aPatch}

@@ -7,7 +7,7 @@ use Rattle.answers.specs.Table.{done, refused, outcome}
 use Rattle.answers.specs.Effect.{tested}
 use Rattle.frames.specs.Bytes.{kindOf, body, withoutRealTime}
 use Rattle.frames.specs.Stream.{report, messageAt, firstFrom, walk, reports}
-use Rattle.patch.specs.Fields.{fields, between, inRange, searchFrom, placeOf}
+use Rattle.fields.specs.Fields.{fields, between, inRange, searchFrom, placeOf}
 use Rattle.patch.specs.Patch.{outFrom, halfUsed, halfFrom}
 use Rattle.edits.specs.Edits.{extended, storedFor, editRows}
 use Rattle.messages.specs.declared.kinds.Kind.the-variants.{Dump as ofDump}

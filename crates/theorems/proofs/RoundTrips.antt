@@ -19,7 +19,7 @@ use Rattle.frames.specs.Stream.{Report, report, readInto, readReport, walk, rep
 use Rattle.frames.proofs.Walk.{reread}
 use Rattle.frames.proofs.OneByte.{scan-close}
 use Rattle.frames.proofs.Complete.{data-bytes, walk-framed, complete}
-use Rattle.patch.proofs.NameLaws.{set-then-shown, shown-then-set}
+use Rattle.names.proofs.Laws.{set-then-shown, shown-then-set}
 use Rattle.edits.proofs.Laws.{edit-done, bus-done, edit-own-field, bus-own-field}
 use Rattle.messages.specs.declared.kinds.Kind.{Kind}
 use Rattle.messages.specs.Kinds.{kindOf, opcodeOf}

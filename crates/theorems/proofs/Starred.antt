@@ -1,10 +1,10 @@
 -- The starred examples of document 01, each computed from the definitions.
 use mathlib.Core.Path.{refl}
 use Rattle.nibbles.specs.Nibbles.{nibbles, total, sum}
-use Rattle.patch.specs.Fields.{fields, between, inRange, searchFrom, placeOf}
+use Rattle.fields.specs.Fields.{fields, between, inRange, searchFrom, placeOf}
 use Rattle.patch.specs.Patch.{outFrom, halfUsed, halfFrom}
-use Rattle.patch.specs.Names.{stored, anyOutside, naming}
-use Rattle.patch.specs.Values.{valueOf}
+use Rattle.names.specs.Names.{stored, anyOutside, naming}
+use Rattle.fields.specs.Values.{valueOf}
 use Rattle.edits.specs.Edits.{extended, storedFor, editRows, busRows, withBus, applying, applyingBus}
 use Rattle.messages.specs.Kinds.{kindOf}
 use Rattle.messages.specs.Judge.{judge}

@@ -7,8 +7,8 @@ use Rattle.answers.specs.declared.Outcome.{Outcome}
 use Rattle.answers.specs.Lists.{All}
 use Rattle.answers.specs.Table.{Verdict, refused, outcome}
 use Rattle.answers.specs.Effect.{Effect}
-use Rattle.patch.specs.Names.{naming}
-use Rattle.patch.specs.Values.{plus, minus, valueOf}
+use Rattle.names.specs.Names.{naming}
+use Rattle.fields.specs.Values.{plus, minus, valueOf}
 use Rattle.edits.specs.Edits.{extended, applying, applyingBus}
 use Rattle.messages.specs.declared.kinds.Kind.{Kind}
 use Rattle.messages.specs.declared.kinds.Kind.the-variants.{Dump as ofDump, Short as ofShort}

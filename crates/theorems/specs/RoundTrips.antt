@@ -10,9 +10,9 @@ use Rattle.answers.specs.Table.{Verdict, done, outcome, answerOf}
 use Rattle.answers.specs.Effect.{Effect}
 use Rattle.frames.specs.Bytes.{withoutRealTime}
 use Rattle.frames.specs.Stream.{Report, report, Reading, reading, walk, reports, read}
-use Rattle.patch.specs.Names.{naming, showing}
+use Rattle.names.specs.Names.{naming, showing}
 use Rattle.edits.specs.Edits.{applying, applyingBus}
-use Rattle.edits.proofs.Laws.{EditDone, BusDone}
+use Rattle.edits.specs.Done.{EditDone, BusDone}
 use Rattle.messages.specs.declared.kinds.Kind.{Kind}
 use Rattle.messages.specs.declared.kinds.Kind.the-variants.{Dump as ofDump}
 use Rattle.messages.specs.Kinds.{singlePatch, kinds, opcodeOf, Filed}

@@ -5,6 +5,7 @@ use answers::NO_ROOM;
 use answers::NOT_ALLOWED;
 use answers::Outcome;
 use answers::WRONG_LENGTH;
+use fields::Parameter;
 use messages::dumps::test_packed;
 use messages::dumps::wrong_number;
 use messages::kinds::BUS_EDIT;
@@ -160,10 +161,10 @@ fn write_short(kind: Short, bytes: &[u8], out: &mut [u8]) -> Outcome
 }
 
 // Writes a remote edit: its own 8 and 11, then 13. Done with detail 7.
-pub fn write_edit(parameter: u8, value: u8, out: &mut [u8]) -> Outcome
-    ensures { λ r. ⌜ Gives (writing (ofShort remoteEdit) (parameter ∷ value ∷ []) [] (now (out .entry))) r (now (out .exit)) ⌝ }
+pub fn write_edit(parameter: Parameter, value: u8, out: &mut [u8]) -> Outcome
+    ensures { λ r. ⌜ Gives (writing (ofShort remoteEdit) (parameter .0 ∷ value ∷ []) [] (now (out .entry))) r (now (out .exit)) ⌝ }
 {
-    write_short(REMOTE_EDIT, &[parameter, value], out)
+    write_short(REMOTE_EDIT, &[parameter.0, value], out)
 }
 
 // Writes a matrix modulation edit: its own 8, 14, 11 and 12, then 13. Done with detail 9.
@@ -189,7 +190,7 @@ fn test_bank(ps: &[u8]) -> BankOutcome
     while k < n {
         let from = k * PATCH;
         let to = from + PATCH;
-        let outcome = patch::checks::test(&ps[from..to]);
+        let outcome = patch::test(&ps[from..to]);
         if outcome.answer != DONE {
             return BankOutcome { outcome, place: k };
         }

@@ -80,7 +80,8 @@ returns-3 c =
     let e = c .before .before in
     let s = e .before .before .before .before .before .before .before in
     let k = s .before .args in
-    let stored : ℕ → List ℕ = λ (a : ℕ). set (set (set (patch s) (104 + 3 * (k .bus)) (k .source)) (105 + 3 * (k .bus)) a) (106 + 3 * (k .bus)) (k .destination) in
+    let b = 3 * (k .bus) in
+    let stored : ℕ → List ℕ = λ (a : ℕ). set (set (set (patch s) (104 + b) (k .source)) (105 + b) a) (106 + b) (k .destination) in
     let silent = all-append _ (rows s) (patchRows (patch s)) (tested (e .before .before .before .before)) (accepted e) in
     gives-changed 0 (edited s) (patch s) (rows s ++ patchRows (patch s)) (c .done .result) (stored (c .before .extend .result)) silent
     (c .done .ensures) (ap stored (c .before .extend .ensures))

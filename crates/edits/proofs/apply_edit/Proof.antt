@@ -9,17 +9,18 @@ use borrow.Author.Needs.{needs}
 use Rattle.answers.specs.Table.{Row, done, Silent}
 use Rattle.answers.proofs.Lists.{all-append}
 use Rattle.answers.proofs.Effects.{passed, gives-kept, gives-kept-behind, gives-changed}
-use Rattle.patch.specs.Fields.{placeOf}
+use Rattle.fields.specs.Fields.{placeOf}
 use Rattle.patch.specs.Patch.{patchRows}
-use Rattle.patch.proofs.Tests.{found-there, found-nowhere, patch-refusals, patch-length}
-use Rattle.patch.proofs.Rules.{found-place}
+use Rattle.fields.proofs.Places.{found-there, found-nowhere}
+use Rattle.patch.proofs.Tests.{patch-refusals, patch-length}
+use Rattle.fields.proofs.Rules.{found-place}
 use Rattle.edits.specs.Edits.{storedFor, valueRows}
 use Rattle.edits.proofs.Tests.{applying-at, applying-nowhere, value-refusals, value-small}
 use Rattle.edits.proofs.apply_edit.Statement.{statement}
 use Rattle.edits.proofs.apply_edit.Tie as tie
 
 abbrev number : tie.After-struct-known → ℕ
-number s = s .before .before .before .before .before .before .args .parameter
+number s = s .before .before .before .before .before .before .args .parameter .0
 
 abbrev value : tie.After-struct-known → ℕ
 value s = s .before .before .before .before .before .before .args .value
@@ -62,8 +63,8 @@ returns c =
     let f = c .before in
     let l = f .before .before in
     let k = l .before .before .args in
-    let e = found-nowhere (placeOf (k .parameter)) (l .place-of .result) (f .enum-told .given .1) (l .place-of .ensures) in
-    rw (applying-nowhere (k .parameter) (k .value) (k .p .now) e) (record { result = c .refused .ensures; lent = refl })
+    let e = found-nowhere (placeOf (k .parameter .0)) (l .place-of .result) (f .enum-told .given .1) (l .place-of .ensures) in
+    rw (applying-nowhere (k .parameter .0) (k .value) (k .p .now) e) (record { result = c .refused .ensures; lent = refl })
 
 returns-2 : tie.Need-returns-2
 returns-2 c =
@@ -100,9 +101,10 @@ returns-4 c =
     let one = e .before .before .before .before in
     let s = one .before .before .before in
     let silent = all-append _ (rows s) (patchRows (patch s)) (tested one) (accepted e) in
+    let new = set (patch s) (place s) (c .before .stored-for .result) in
     let byte = ap (λ (b : ℕ). set (patch s) (place s) b) (c .before .stored-for .ensures) in
     rw (applying-at (number s) (value s) (place s) (patch s) (there s))
-    (gives-changed 0 (edited s) (patch s) (rows s ++ patchRows (patch s)) (c .done .result) (set (patch s) (place s) (c .before .stored-for .result)) silent (c .done .ensures) byte)
+    (gives-changed 0 (edited s) (patch s) (rows s ++ patchRows (patch s)) (c .done .result) new silent (c .done .ensures) byte)
 
 pub apply-edit-spec : {M : Type 1} → statement M
 apply-edit-spec =

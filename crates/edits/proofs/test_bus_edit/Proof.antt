@@ -2,8 +2,8 @@
 use mathlib.Core.Path.{sym, ap, _∙_}
 use borrow.Author.Needs.{needs}
 use borrow.Author.Tests.{lt-ltb, le-ltb, not-true, not-false}
-use Rattle.patch.specs.Fields.{between}
-use Rattle.edits.specs.Edits.{byteRows, busRows}
+use Rattle.fields.specs.Fields.{fields, inRange}
+use Rattle.edits.specs.Edits.{busRows}
 use Rattle.edits.proofs.test_bus_edit.Statement.{statement}
 use Rattle.edits.proofs.test_bus_edit.Tie as tie
 
@@ -16,20 +16,20 @@ unfolding busRows
 returns-2 c = simp (le-ltb _ _ (c .before .before .if1 .left), lt-ltb _ _ (c .before .if2 .taken)) (c .refused2 .ensures)
 
 returns-3 : tie.Need-returns-3
-unfolding busRows
+unfolding busRows fields inRange
 returns-3 c =
     let e = c .before .before .before in
     let amounts = e .before in
-    let out = ap (between 0xC0 0x3F) (sym (e .extend .ensures)) ∙ sym (c .before .before .lies-between .ensures) ∙ not-true _ (c .before .if3 .taken) in
+    let out = ap (inRange 105) (sym (e .extend .ensures)) ∙ sym (c .before .before .lies-between .ensures) ∙ not-true _ (c .before .if3 .taken) in
     simp (le-ltb _ _ (amounts .before .if1 .left), le-ltb _ _ (amounts .if2 .left), out) (c .refused3 .ensures)
 
 returns-4 : tie.Need-returns-4
-unfolding busRows byteRows
+unfolding busRows fields inRange
 returns-4 c =
     let e = c .before .before .before in
     let amounts = e .before in
     let k = amounts .before .before .args in
-    let inside = ap (between 0xC0 0x3F) (sym (e .extend .ensures)) ∙ sym (c .before .before .lies-between .ensures) ∙ not-false _ (c .before .if3 .left) in
+    let inside = ap (inRange 105) (sym (e .extend .ensures)) ∙ sym (c .before .before .lies-between .ensures) ∙ not-false _ (c .before .if3 .left) in
     let bytes = rw (e .extend .ensures) at (c .test-bytes .ensures) in
     simp (le-ltb _ _ (amounts .before .if1 .left), le-ltb _ _ (amounts .if2 .left), inside) bytes
 

@@ -1,80 +1,85 @@
--- The three places from the lowest up, then the rule of a bus: the first test that fails gives the answer.
-use mathlib.Core.Path.{_≡_, sym, _∙_}
-use mathlib.Core.Bool.{true}
+-- The three places from the lowest up, by the ranges of bus 0, then the rule of a bus: the first test that fails gives the answer.
+use mathlib.Core.Path.{_≡_, sym, ap, _∙_}
+use mathlib.Core.Bool.{true, cond}
 use mathlib.Core.List.{[], _∷_}
-use mathlib.Core.Option.{none}
-use Prim.Native.Nat.{_+_, _*_}
+use mathlib.Core.Option.{none, some}
 use borrow.Author.Needs.{needs}
 use borrow.Author.Tests.{not-true, not-false}
-use Rattle.patch.specs.Fields.{inRange}
-use Rattle.patch.specs.Patch.{outFrom}
-use Rattle.patch.proofs.Accepted.{three}
-use Rattle.patch.proofs.Buses.{source-range, amount-range, destination-range}
+use Rattle.answers.specs.Table.{rowAt}
+use Rattle.answers.specs.Effect.{tested}
+use Rattle.fields.specs.Fields.{fields, inRange}
+use Rattle.patch.specs.Patch.{halfUsed}
 use Rattle.edits.specs.Edits.{byteRows}
+use Rattle.edits.proofs.Tests.{byte-rows}
 use Rattle.edits.proofs.test_bytes.Statement.{statement}
 use Rattle.edits.proofs.test_bytes.Tie as tie
 
--- What each test of a range answered is what the table says of the byte at its place.
-source-judged : (t : tie.After-lies-between) → inRange (104 + 3 * (t .before .args .bus)) (t .before .args .source) ≡ t .lies-between .result
-source-judged t = let s = t .before in source-range (s .args .bus) (s .pre) (s .args .source) ∙ sym (t .lies-between .ensures)
+-- The bounds in code are those of bus 0 in the table: what each test of a range answered.
+source : (t : tie.After-lies-between) → inRange 104 (t .before .args .source) ≡ t .lies-between .result
+unfolding fields inRange
+source t = sym (t .lies-between .ensures)
 
-amount-judged : (t : tie.After-lies-between2) → let k = t .before .before .before .args in inRange (104 + 3 * (k .bus) + 1) (k .amount) ≡ t .lies-between2 .result
-amount-judged t = let s = t .before .before .before in amount-range (s .args .bus) (s .pre) (s .args .amount) ∙ sym (t .lies-between2 .ensures)
+amount : (t : tie.After-lies-between2) → inRange 105 (t .before .before .before .args .amount) ≡ t .lies-between2 .result
+unfolding fields inRange
+amount t = sym (t .lies-between2 .ensures)
 
-destination-judged : (t : tie.After-lies-between3) → let k = t .before .before .before .before .before .args in inRange (104 + 3 * (k .bus) + 2) (k .destination) ≡ t .lies-between3 .result
-destination-judged t =
-    let s = t .before .before .before .before .before in
-    destination-range (s .args .bus) (s .pre) (s .args .destination) ∙ sym (t .lies-between3 .ensures)
+destination : (t : tie.After-lies-between3) → inRange 106 (t .before .before .before .before .before .args .destination) ≡ t .lies-between3 .result
+unfolding fields inRange
+destination t = sym (t .lies-between3 .ensures)
 
-source-in : (t : tie.Else1) → inRange (104 + 3 * (t .before .before .args .bus)) (t .before .before .args .source) ≡ true
-source-in t = source-judged (t .before) ∙ not-false _ (t .if1 .left)
+source-in : (t : tie.Else1) → inRange 104 (t .before .before .args .source) ≡ true
+source-in t = source (t .before) ∙ not-false _ (t .if1 .left)
 
-amount-in : (t : tie.Else2) → let k = t .before .before .before .before .args in inRange (104 + 3 * (k .bus) + 1) (k .amount) ≡ true
-amount-in t = amount-judged (t .before) ∙ not-false _ (t .if2 .left)
-
--- No place is out of range once the third has passed.
-none-out : (t : tie.Else3) → let k = t .before .before .before .before .before .before .args in
-    outFrom (104 + 3 * (k .bus)) (k .source ∷ k .amount ∷ k .destination ∷ []) ≡ none
-none-out t =
-    let k = t .before .before .before .before .before .before .args in
-    rw (three (104 + 3 * (k .bus)) (k .source) (k .amount) (k .destination))
-    (simp (source-in (t .before .before .before .before), amount-in (t .before .before), destination-judged (t .before) ∙ not-false _ (t .if3 .left)))
+amount-in : (t : tie.Else2) → inRange 105 (t .before .before .before .before .args .amount) ≡ true
+amount-in t = amount (t .before) ∙ not-false _ (t .if2 .left)
 
 returns : tie.Need-returns
-unfolding byteRows
 returns c =
     let t = c .before in
-    let k = t .before .before .args in
-    simp (three (104 + 3 * (k .bus)) (k .source) (k .amount) (k .destination), source-judged (t .before) ∙ not-true _ (t .if1 .taken)) (c .refused .ensures)
+    let s = t .before .before in
+    let k = s .args in
+    let e = ap tested (byte-rows (k .bus) (k .source) (k .amount) (k .destination) (s .pre)) in
+    c .refused .ensures ∙ sym (e ∙ simp (source (t .before) ∙ not-true _ (t .if1 .taken)))
 
 returns-2 : tie.Need-returns-2
-unfolding byteRows
 returns-2 c =
     let t = c .before in
-    let k = t .before .before .before .before .args in
-    let out = amount-judged (t .before) ∙ not-true _ (t .if2 .taken) in
-    simp (three (104 + 3 * (k .bus)) (k .source) (k .amount) (k .destination), source-in (t .before .before), out) (c .refused2 .ensures)
+    let s = t .before .before .before .before in
+    let k = s .args in
+    let out = amount (t .before) ∙ not-true _ (t .if2 .taken) in
+    let e = ap tested (byte-rows (k .bus) (k .source) (k .amount) (k .destination) (s .pre)) in
+    c .refused2 .ensures ∙ sym (e ∙ simp (source-in (t .before .before), out))
 
 returns-3 : tie.Need-returns-3
-unfolding byteRows
 returns-3 c =
     let t = c .before in
-    let k = t .before .before .before .before .before .before .args in
-    let out = destination-judged (t .before) ∙ not-true _ (t .if3 .taken) in
-    simp (three (104 + 3 * (k .bus)) (k .source) (k .amount) (k .destination), source-in (t .before .before .before .before), amount-in (t .before .before), out)
-    (c .refused3 .ensures)
+    let second = t .before .before in
+    let first = second .before .before in
+    let s = first .before .before in
+    let k = s .args in
+    let out = destination (t .before) ∙ not-true _ (t .if3 .taken) in
+    let e = ap tested (byte-rows (k .bus) (k .source) (k .amount) (k .destination) (s .pre)) in
+    c .refused3 .ensures ∙ sym (e ∙ simp (source-in first, amount-in second, out))
+
+-- Once the third byte has passed, the rule of a bus decides.
+passed : (t : tie.Else3) → let k = t .before .before .before .before .before .before .args in
+    byteRows (k .bus) (k .source) (k .amount) (k .destination)
+    ≡ rowAt 11 none ∷ rowAt 12 (cond (halfUsed (k .source) (k .destination)) (some (k .bus)) none) ∷ []
+passed t =
+    let second = t .before .before in
+    let first = second .before .before in
+    let s = first .before .before in
+    let k = s .args in
+    let destination-in = destination (t .before) ∙ not-false _ (t .if3 .left) in
+    rw (byte-rows (k .bus) (k .source) (k .amount) (k .destination) (s .pre)) (simp (source-in first, amount-in second, destination-in))
 
 returns-4 : tie.Need-returns-4
-unfolding byteRows
 returns-4 c =
-    let half = sym (c .before .before .half-used .ensures) ∙ c .before .if4 .taken in
-    simp (none-out (c .before .before .before), half) (c .refused4 .ensures)
+    c .refused4 .ensures ∙ sym (ap tested (passed (c .before .before .before)) ∙ simp (sym (c .before .before .half-used .ensures) ∙ c .before .if4 .taken))
 
 returns-5 : tie.Need-returns-5
-unfolding byteRows
 returns-5 c =
-    let whole = sym (c .before .before .half-used .ensures) ∙ c .before .if4 .left in
-    simp (none-out (c .before .before .before), whole) (c .done .ensures)
+    c .done .ensures ∙ sym (ap tested (passed (c .before .before .before)) ∙ simp (sym (c .before .before .half-used .ensures) ∙ c .before .if4 .left))
 
 pub test-bytes-spec : {M : Type 1} → statement M
 test-bytes-spec =

@@ -2,7 +2,7 @@
 use mathlib.Core.Path.{_≡_, sym, ap, _∙_}
 use borrow.Author.Needs.{needs}
 use borrow.Author.Tests.{lt-ltb, le-ltb, not-true, not-false}
-use Rattle.patch.specs.Fields.{inRange}
+use Rattle.fields.specs.Fields.{inRange}
 use Rattle.edits.specs.Edits.{storedFor, valueRows}
 use Rattle.edits.proofs.test_value.Statement.{statement}
 use Rattle.edits.proofs.test_value.Tie as tie
@@ -12,7 +12,8 @@ unfolding valueRows
 returns c = simp (lt-ltb _ _ (c .before .if1 .taken)) (c .refused .ensures)
 
 -- What the range's test answered is what the definition says of the stored byte.
-judged : (i : tie.After-in-range) → let k = i .before .before .before .before .args in inRange (k .place .0) (storedFor (k .parameter) (k .value)) ≡ i .in-range .result
+judged : (i : tie.After-in-range) → let k = i .before .before .before .before .args in
+    inRange (k .place .0) (storedFor (k .parameter .0) (k .value)) ≡ i .in-range .result
 judged i = ap (inRange (i .before .before .before .before .args .place .0)) (sym (i .before .stored-for .ensures)) ∙ sym (i .in-range .ensures)
 
 returns-2 : tie.Need-returns-2

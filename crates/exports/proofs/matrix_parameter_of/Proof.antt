@@ -1,6 +1,6 @@
 -- By what the lookup found: its byte, or 255.
 use borrow.Author.Needs.{needs}
-use Rattle.patch.specs.Fields.{parameterOf}
+use Rattle.fields.specs.Fields.{parameterOf}
 use Rattle.exports.proofs.Lookups.{parameter-told}
 use Rattle.exports.proofs.matrix_parameter_of.Statement.{statement}
 use Rattle.exports.proofs.matrix_parameter_of.Tie as tie

@@ -1,6 +1,6 @@
 -- By what the lookup found: its byte, or 255.
 use borrow.Author.Needs.{needs}
-use Rattle.patch.specs.Fields.{placeOf}
+use Rattle.fields.specs.Fields.{placeOf}
 use Rattle.exports.proofs.Lookups.{place-told}
 use Rattle.exports.proofs.matrix_place_of.Statement.{statement}
 use Rattle.exports.proofs.matrix_place_of.Tie as tie

@@ -1,0 +1,37 @@
+-- What an edit that is done has done.
+use mathlib.Core.Path.{_≡_}
+use mathlib.Core.List.{List}
+use mathlib.Core.Option.{some}
+use Prim.Native.Nat.{ℕ, _+_, _*_, _≤_, _<_}
+use lib.ListN.{getD, set}
+use Rattle.answers.specs.Table.{outcome}
+use Rattle.answers.specs.Effect.{tested}
+use Rattle.fields.specs.Fields.{placeOf}
+use Rattle.patch.specs.Patch.{patchRows}
+use Rattle.edits.specs.Edits.{extended, storedFor, withBus, applying, applyingBus}
+
+-- A remote edit that is done: the byte at its parameter's place becomes the value as stored, every other byte stays, and the patch
+-- afterwards passes its tests.
+pub record EditDone (n v : ℕ) (p : List ℕ) : Type 0 where
+  pub place : ℕ
+  pub found : placeOf n ≡ some place
+  pub inside : place < 134
+  pub answered : applying n v p .result ≡ outcome 0 0
+  pub stored : applying n v p .lent ≡ set p place (storedFor n v)
+  pub own : getD (applying n v p .lent) place 0 ≡ storedFor n v
+  pub others : (i : ℕ) → (i ≡ place → ⊥) → getD (applying n v p .lent) i 0 ≡ getD p i 0
+  pub accepted : tested (patchRows (applying n v p .lent)) ≡ outcome 0 0
+
+-- A matrix modulation edit that is done: its bus holds source, extended amount and destination, every other byte stays, and the patch
+-- afterwards passes its tests.
+pub record BusDone (b s a d : ℕ) (p : List ℕ) : Type 0 where
+  pub bus : b ≤ 9
+  pub seven-bits : a ≤ 127
+  pub answered : applyingBus b s a d p .result ≡ outcome 0 0
+  pub stored : applyingBus b s a d p .lent ≡ withBus b s a d p
+  pub source : getD (applyingBus b s a d p .lent) (104 + 3 * b) 0 ≡ s
+  pub amount : getD (applyingBus b s a d p .lent) (105 + 3 * b) 0 ≡ extended a
+  pub destination : getD (applyingBus b s a d p .lent) (106 + 3 * b) 0 ≡ d
+  pub others : (i : ℕ) → (i ≡ 104 + 3 * b → ⊥) → (i ≡ 105 + 3 * b → ⊥) → (i ≡ 106 + 3 * b → ⊥)
+      → getD (applyingBus b s a d p .lent) i 0 ≡ getD p i 0
+  pub accepted : tested (patchRows (applyingBus b s a d p .lent)) ≡ outcome 0 0

@@ -1,0 +1,9 @@
+pub mod Below
+pub mod Between
+pub mod Rules
+pub mod Signs
+pub mod Buses
+pub mod Widths
+pub mod Words
+pub mod Places
+pub mod Rule

@@ -1,0 +1,141 @@
+// The 134 bytes of a patch as document 01 lists them: byte place, parameter number, least and greatest value, and the lookups over them.
+pub mod columns;
+mod rows;
+
+use crate::columns::NOWHERE;
+use crate::columns::eight_places;
+use crate::columns::four_ranges;
+use crate::rows::FIELDS;
+use crate::rows::NONE;
+use crate::rows::NUMBERS;
+use crate::rows::R0;
+use crate::rows::R104;
+use crate::rows::R105;
+use crate::rows::R106;
+ghost use mathlib.Core.Path.{_≡_};
+ghost use lib.ListN.{getD};
+ghost use Rattle.fields.specs.Fields.{fields, leastAt, greatestAt, between, inRange, placeOf, parameterOf};
+ghost use Rattle.fields.specs.Columns.{foundPlace, foundParameter};
+
+// A row: a byte place, its parameter number, its least and its greatest value. Values are bytes as stored: a least value above the
+// greatest is that of a signed field, 0xC0 for -64, 0xE0 for -32.
+pub struct Field(pub u8, pub u8, pub u8, pub u8);
+
+// How many bytes a patch has, each with its place.
+pub const PLACES: usize = 134;
+
+// The name's bytes come first.
+pub const NAME_SIZE: usize = 8;
+
+// Their row: all eight have the same range.
+pub const NAME: Field = R0;
+
+// The buses come last, three bytes each.
+pub const BUSES: usize = 10;
+
+// The rows of bus 0: every bus has the same ranges.
+pub const SOURCE: Field = R104;
+
+pub const AMOUNT: Field = R105;
+
+pub const DESTINATION: Field = R106;
+
+// Where bus 0 has them; those of the next bus stand three places on.
+pub const SOURCE_AT: usize = R104.0 as usize;
+
+pub const AMOUNT_AT: usize = R105.0 as usize;
+
+pub const DESTINATION_AT: usize = R106.0 as usize;
+
+// The listing's first column: which of the 134 bytes.
+pub struct BytePlace(pub u8);
+
+// The listing's second column: the number that a remote edit names.
+pub struct Parameter(pub u8);
+
+pub enum FoundPlace {
+    At(BytePlace),
+    Nothing,
+}
+
+pub enum FoundParameter {
+    Of(Parameter),
+    Nothing,
+}
+
+// A number of the table, 0 past its end.
+fn entry(i: usize) -> u8
+    ensures { λ r. ⌜ r ≡ getD fields i 0 ⌝ }
+{
+    if i < NUMBERS {
+        return FIELDS[i];
+    }
+    0
+}
+
+// The least value of a place, as a byte; 0 past the table.
+pub fn least_of(place: BytePlace) -> u8
+    ensures { λ r. ⌜ r ≡ leastAt (place .0) ⌝ }
+{
+    entry(place.0 as usize * 4 + 2)
+}
+
+// The greatest value of a place, as a byte; 0 past the table.
+pub fn greatest_of(place: BytePlace) -> u8
+    ensures { λ r. ⌜ r ≡ greatestAt (place .0) ⌝ }
+{
+    entry(place.0 as usize * 4 + 3)
+}
+
+// The place of a parameter, by the table's columns.
+pub fn place_of(parameter: Parameter) -> FoundPlace
+    ensures { λ r. ⌜ r ≡ foundPlace (placeOf (parameter .0)) ⌝ }
+{
+    let n = parameter.0 as usize;
+    let k = (eight_places(n / 8) >> (8 * (n % 8))) % 256;
+    if k == NOWHERE {
+        return FoundPlace::Nothing;
+    }
+    FoundPlace::At(BytePlace(k as u8))
+}
+
+// The parameter of a place, by the table.
+pub fn parameter_of(place: BytePlace) -> FoundParameter
+    ensures { λ r. ⌜ r ≡ foundParameter (parameterOf (place .0)) ⌝ }
+{
+    let k = place.0 as usize;
+    if PLACES <= k {
+        return FoundParameter::Nothing;
+    }
+    let n = entry(k * 4 + 1);
+    if n == NONE {
+        return FoundParameter::Nothing;
+    }
+    FoundParameter::Of(Parameter(n))
+}
+
+// A byte lies between two bounds; where the least is above the greatest, the range goes on from 255 to 0.
+pub fn lies_between(least: u8, greatest: u8, b: u8) -> bool
+    ensures { λ r. ⌜ r ≡ between least greatest b ⌝ }
+{
+    if least <= greatest {
+        if b < least {
+            return false;
+        }
+        b <= greatest
+    } else {
+        if b < least {
+            return b <= greatest;
+        }
+        true
+    }
+}
+
+// A byte lies in the range of its field. Past the table both bounds are 0.
+pub fn in_range(place: BytePlace, b: u8) -> bool
+    ensures { λ r. ⌜ r ≡ inRange (place .0) b ⌝ }
+{
+    let k = place.0 as usize;
+    let range = (four_ranges(k / 4) >> (16 * (k % 4))) % 65536;
+    std::num::wrapping_sub_u8(b, (range % 256) as u8) <= (range / 256) as u8
+}
