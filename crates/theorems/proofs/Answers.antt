@@ -1,137 +1,358 @@
--- Reading a record answers by one table: each number exactly when its row says so and no row before it says anything.
--- The walk stops at the first F0H, at the end of the message, or hands the message to its own rows; a buffer that is too short comes last.
-use mathlib.Core.Path.{_≡_, refl, sym, ap, _∙_}
-use mathlib.Core.Bool.{Bool, true, false}
-use mathlib.Core.List.{List, [], _∷_, _++_}
-use mathlib.Core.Logic.{_↔_}
-use mathlib.Core.Option.{none, some}
-use Prim.Native.Nat.{ℕ, suc, _+_}
+-- Demand 1. The walk stops at the first F0H, at the end of the message, or hands the message to its own rows; a buffer that is too short comes last.
+-- The other routines are their rows: `changed` and `written` keep the lent bytes where a row refuses.
+use mathlib.Core.Path.{_≡_, refl, sym, ap, _∙_, subst}
+use mathlib.Core.Bool.{Bool, true, false, not, _||_}
+use mathlib.Core.List.{List, [], _∷_, _++_, map}
+use mathlib.Core.Logic.{_⊎_, inl, inr, ⊎-elim}
+use mathlib.Core.Option.{Option, none, some}
+use Prim.Native.Nat.{ℕ, zero, suc, _+_, _*_, _/_, _%_}
 use native.Mathlib.Omega.{arith}
 use lib.Dec.{eqb, leb, ltb}
-use lib.ListN.{length, drop}
+use lib.ListN.{length, take, drop, length-map, length-set, drop-of-length-le}
+use lib.Seq.{drop-at, drop-append-seam}
 use borrow.Author.Tests.{eqb-true, leb-true, leb-false, le-ltb, lt-ltb}
-use Rattle.answers.specs.Table.{Row, row, rowAt, Verdict, done, refused, first, answerOf, detailOf, outcome, Silent, FirstSays}
 use Rattle.answers.specs.declared.Outcome.{Outcome}
-use Rattle.answers.proofs.Lists.{all-append}
-use Rattle.answers.proofs.Rows.{Refusals, first-append, first-passed, refused-exactly, zero-silent}
+use Rattle.answers.specs.Lists.{All}
+use Rattle.answers.specs.Table.{Row, row, says, Verdict, done, refused, first, outcome, outcomeOf, four, Silent}
+use Rattle.answers.specs.Effect.{Effect, tested, changed, written, Keeps, Decides}
+use Rattle.answers.proofs.Lists.{all-append, all-weaken}
+use Rattle.answers.proofs.Rows.{Refusals, numberOf, Heard, nothing, something, heard, first-append, first-passed, passed-over, done-passed, given-first, first-given, row-equal, decides}
+use Rattle.answers.proofs.Effects.{changed-decides, changed-keeps, written-decides, written-keeps}
 use Rattle.frames.specs.Bytes.{body}
-use Rattle.frames.specs.Stream.{readInto, readReport, messageAt, firstFrom, walk, read}
+use Rattle.frames.specs.Stream.{Report, Reading, packedIn, readInto, readReport, messageAt, firstFrom, walk, read, reports}
+use Rattle.frames.proofs.Walk.{reread}
+use Rattle.frames.proofs.Lent.{reading-keeps}
+use Rattle.patch.specs.Patch.{fieldRows, patchRows}
+use Rattle.patch.proofs.Tests.{field-refusals, patch-refusals}
+use Rattle.names.specs.Names.{stored, shown, nameRows, naming, showing}
+use Rattle.edits.specs.Edits.{editRows, busRows, withByte, withBus, storedFor, applying, applyingBus}
+use Rattle.edits.proofs.Tests.{edit-refusals, bus-refusals}
+use Rattle.fields.specs.Fields.{placeOf}
 use Rattle.messages.specs.Kinds.{kindOf}
 use Rattle.messages.specs.Judge.{byteAt, messageRows, judge}
-use Rattle.messages.proofs.Numbers.{IsDone, made, record-done, message-refusals}
-use Rattle.theorems.specs.Answers.{fromStart, packedIn, outcomeOf, answered, found, message, recordIn, answerRows}
+use Rattle.messages.specs.Layout.{message, givenRows}
+use Rattle.messages.proofs.Numbers.{IsDone, made, record-done, message-refusals, given-refusals}
+use Rattle.reading.specs.Told.{reportOr, walked, reads}
+use Rattle.writing.specs.declared.BankOutcome.{BankOutcome}
+use Rattle.writing.specs.Writing.{writing, writingBank, bankFrom, firstBad, orLater, unlessBad}
+use Rattle.theorems.specs.Answers.{fromStart, isEmpty, found, complete, recordIn, opcodeIn, walkRows, thenRoom, Answered, patchesRows, bankBytes, bankTable, Demand1}
 
--- The walk finds the message at the first F0H.
-data Start (l : List ℕ) (p : ℕ) : Type 0 where
-  nowhere : fromStart l ≡ [] → firstFrom judge p l ≡ none → Start l p
-  here : (f : ℕ) (t : List ℕ) → fromStart l ≡ 0xF0 ∷ t → firstFrom judge p l ≡ some (messageAt judge f t) → Start l p
+-- The walk finds nothing, and the first row says so; or it finds a message, and its verdict is that of the rows.
+data Found (s : List ℕ) (place : ℕ) : Type 0 where
+  nowhere : found s place ≡ [] → walk judge s place ≡ none → Found s place
+  here : (r : Report) → walk judge s place ≡ some r → r .verdict ≡ first (walkRows (found s place)) (recordIn (found s place)) → Found s place
 
-start : (l : List ℕ) (p : ℕ) → Start l p
-unfolding fromStart firstFrom
-start [] p = nowhere refl refl
-start (b ∷ l) p = by-test (eqb b 0xF0) refl (start l (suc p))
-  where
-    by-test : (t : Bool) → eqb b 0xF0 ≡ t → Start l (suc p) → Start (b ∷ l) p
-    by-test true q i = here p l (rw (q, eqb-true b 0xF0 q)) (rw q)
-    by-test false q (nowhere e₁ e₂) = nowhere (rw q e₁) (rw q e₂)
-    by-test false q (here f t e₁ e₂) = here f t (rw q e₁) (rw q e₂)
-
--- The last row: a buffer that is too short for the packed bytes.
-reading-done : (f e o : ℕ) (b p lent : List ℕ)
-    → answered (readInto f e (done o b p) lent) ≡ outcomeOf (first (row 13 (ltb (length lent) (length p)) ∷ []) (done o b p))
-reading-done f e o b p lent = by-test (leb (length p) (length lent)) refl
-  where
-    by-test : (t : Bool) → leb (length p) (length lent) ≡ t
-        → answered (readInto f e (done o b p) lent) ≡ outcomeOf (first (row 13 (ltb (length lent) (length p)) ∷ []) (done o b p))
-    by-test true q = rw (q, le-ltb (length lent) (length p) (leb-true (length p) (length lent) q))
-    by-test false q = rw (q, lt-ltb (length lent) (length p) (leb-false (length p) (length lent) q))
-
-reading-rows : (rows : List Row) (f e o : ℕ) (b p lent : List ℕ)
-    → answered (readInto f e (first rows (done o b p)) lent) ≡ outcomeOf (first rows (first (row 13 (ltb (length lent) (length p)) ∷ []) (done o b p)))
-reading-rows [] f e o b p lent = reading-done f e o b p lent
-reading-rows (row k true ∷ rows) f e o b p lent = refl
-reading-rows (row k false ∷ rows) f e o b p lent = reading-rows rows f e o b p lent
-reading-rows (rowAt k (some d) ∷ rows) f e o b p lent = refl
-reading-rows (rowAt k none ∷ rows) f e o b p lent = reading-rows rows f e o b p lent
-
--- A complete message m, read into a lent buffer.
-reading-judged : (f e : ℕ) (m lent : List ℕ) (v : Verdict) → IsDone v
-    → answered (readInto f e (first (messageRows m) v) lent) ≡ outcomeOf (first (messageRows m ++ (row 13 (ltb (length lent) (length (packedIn v))) ∷ [])) v)
-reading-judged f e m lent v (made o b p q) =
-    rw (q, first-append (messageRows m) (row 13 (ltb (length lent) (length p)) ∷ []) (done o b p)) (reading-rows (messageRows m) f e o b p lent)
-
-record-here : (l : List ℕ) → IsDone (recordIn l)
-record-here l = record-done (kindOf (byteAt (message l) 3)) (message l)
-
--- The message at an F0H before the bytes t, read into a lent buffer.
-abbrev ReadsBy : ℕ → ℕ → List ℕ → List ℕ → Type 0
-ReadsBy n f t lent =
-    answered (readReport judge n (some (messageAt judge f t)) lent) ≡ outcomeOf (first (answerRows (0xF0 ∷ t) lent) (recordIn (0xF0 ∷ t)))
-
-reading-message : (n f : ℕ) (t lent : List ℕ) → ReadsBy n f t lent
+message-verdict : (f : ℕ) (t : List ℕ) → messageAt judge f t .verdict ≡ first (walkRows (0xF0 ∷ t)) (recordIn (0xF0 ∷ t))
 unfolding messageAt judge
-reading-message n f t lent = by-end (drop (length (body t)) t) refl
+message-verdict f t = by-end (drop (length (body t)) t) refl
   where
-    by-test : (x : ℕ) (r : List ℕ) → drop (length (body t)) t ≡ x ∷ r → (c : Bool) → eqb x 0xF7 ≡ c → ReadsBy n f t lent
-    by-test x r e true q = rw (e, q) (reading-judged f (suc (suc f + length (body t))) (message (0xF0 ∷ t)) lent (recordIn (0xF0 ∷ t)) (record-here (0xF0 ∷ t)))
+    by-test : (x : ℕ) (r : List ℕ) → drop (length (body t)) t ≡ x ∷ r → (c : Bool) → eqb x 0xF7 ≡ c
+        → messageAt judge f t .verdict ≡ first (walkRows (0xF0 ∷ t)) (recordIn (0xF0 ∷ t))
+    by-test x r e true q = rw (e, q)
     by-test x r e false q = rw (e, q)
 
-    by-end : (w : List ℕ) → drop (length (body t)) t ≡ w → ReadsBy n f t lent
+    by-end : (w : List ℕ) → drop (length (body t)) t ≡ w → messageAt judge f t .verdict ≡ first (walkRows (0xF0 ∷ t)) (recordIn (0xF0 ∷ t))
     by-end [] e = rw e
     by-end (x ∷ r) e = by-test x r e (eqb x 0xF7) refl
 
--- A verdict that is answered n, other than 0, is refused by n.
-refused-by : (v : Verdict) (n d : ℕ) → (n ≡ 0 → ⊥) → outcomeOf v ≡ outcome n d → v ≡ refused n d
-refused-by (done o b p) n d h e = absurd (h (sym (ap (λ (o : Outcome). o .answer) e)))
-refused-by (refused k c) n d h e =
-    let number = ap (λ (o : Outcome). o .answer) e in
-    let detail = ap (λ (o : Outcome). o .detail) e in
-    cc
+-- The first F0H.
+data Start (l : List ℕ) (p : ℕ) : Type 0 where
+  none-there : fromStart l ≡ [] → firstFrom judge p l ≡ none → Start l p
+  starts : (f : ℕ) (t : List ℕ) → fromStart l ≡ 0xF0 ∷ t → firstFrom judge p l ≡ some (messageAt judge f t) → Start l p
 
-refuses : (rows : List Row) (v : Verdict) → IsDone v → (n d : ℕ) → (first rows v ≡ refused n d) ↔ FirstSays rows n d
-refuses rows v (made o b p q) n d = rw q (refused-exactly rows o b p n d)
+start : (l : List ℕ) (p : ℕ) → Start l p
+unfolding fromStart firstFrom
+start [] p = none-there refl refl
+start (b ∷ l) p = by-test (eqb b 0xF0) refl (start l (suc p))
+  where
+    by-test : (t : Bool) → eqb b 0xF0 ≡ t → Start l (suc p) → Start (b ∷ l) p
+    by-test true q i = starts p l (rw (q, eqb-true b 0xF0 q)) (rw q)
+    by-test false q (none-there e₁ e₂) = none-there (rw q e₁) (rw q e₂)
+    by-test false q (starts f t e₁ e₂) = starts f t (rw q e₁) (rw q e₂)
 
-made-zero : (v : Verdict) → IsDone v → answerOf v ≡ 0
-made-zero v (made o b p q) = rw q
+finds : (s : List ℕ) (place : ℕ) → Found s place
+unfolding walk
+finds s place = go (start (drop place s) place)
+  where
+    go : Start (drop place s) place → Found s place
+    go (none-there e₁ e₂) = nowhere e₁ e₂
+    go (starts f t e₁ e₂) = here (messageAt judge f t) e₂ (rw e₁ (message-verdict f t))
 
--- Reading a record of the input s from a place, lent a buffer.
+module _ (l : List ℕ) where
+  record-made : IsDone (recordIn l)
+  record-made = record-done (kindOf (byteAt (complete l) 3)) (complete l)
+
+  walk-refusals : Refusals (walkRows l)
+  walk-refusals = (omega arith, (omega arith, (omega arith, message-refusals (complete l))))
+
+  room-refusals : (n : ℕ) (lent : List ℕ) → Refusals (thenRoom (walkRows l) n lent)
+  room-refusals n lent = all-append (λ (r : Row). numberOf r ≡ 0 → ⊥) (walkRows l) (row 13 (ltb (length lent) n) ∷ []) walk-refusals (omega arith)
+
+-- An outcome that the rows come to with a record that is done.
+decides-by : (rows : List Row) (v : Verdict) (o : Outcome) → IsDone v → Refusals rows → o ≡ outcomeOf (first rows v) → Decides rows (outcomeOf v .detail) o
+decides-by rows v o (made op b p q) a e = rw q (decides rows op b p o a (rw q at e))
+
+-- Where there is no F0H, the first row says so.
+nothing-found : (l : List ℕ) → l ≡ [] → first (walkRows l) (recordIn l) ≡ refused (outcome 1 0)
+nothing-found l e = rw e
+
+nothing-room : (l : List ℕ) (n : ℕ) (lent : List ℕ) (v : Verdict) → l ≡ [] → first (thenRoom (walkRows l) n lent) v ≡ refused (outcome 1 0)
+nothing-room l n lent v e = rw e
+
+walk-outcome : (s : List ℕ) (place : ℕ) → walked s place .outcome ≡ outcomeOf (first (walkRows (found s place)) (recordIn (found s place)))
+walk-outcome s place = go (finds s place)
+  where
+    go : Found s place → walked s place .outcome ≡ outcomeOf (first (walkRows (found s place)) (recordIn (found s place)))
+    go (nowhere e₁ e₂) = rw e₂ (sym (ap outcomeOf (nothing-found (found s place) e₁)))
+    go (here r e₁ e₂) = rw e₁ (ap outcomeOf e₂)
+
+-- What the rows come to, read into a lent buffer: they refuse, or the room does, or it is done.
+reading-rows : (rows : List Row) (f e o : ℕ) (b p lent : List ℕ)
+    → readInto f e (first rows (done o b p)) lent .result .outcome ≡ outcomeOf (first (thenRoom rows (length p) lent) (done o b p))
+reading-rows [] f e o b p lent = by-test (leb (length p) (length lent)) refl
+  where
+    by-test : (t : Bool) → leb (length p) (length lent) ≡ t
+        → readInto f e (done o b p) lent .result .outcome ≡ outcomeOf (first (row 13 (ltb (length lent) (length p)) ∷ []) (done o b p))
+    by-test true q = rw (q, le-ltb (length lent) (length p) (leb-true (length p) (length lent) q))
+    by-test false q = rw (q, lt-ltb (length lent) (length p) (leb-false (length p) (length lent) q))
+reading-rows (r ∷ rows) f e o b p lent = go (heard r) (reading-rows rows f e o b p lent)
+  where
+    go : Heard r → readInto f e (first rows (done o b p)) lent .result .outcome ≡ outcomeOf (first (thenRoom rows (length p) lent) (done o b p))
+        → readInto f e (first (r ∷ rows) (done o b p)) lent .result .outcome ≡ outcomeOf (first (thenRoom (r ∷ rows) (length p) lent) (done o b p))
+    go (nothing q) i = rw q i
+    go (something x q) i = rw q
+
+reading-by : (rows : List Row) (v : Verdict) → IsDone v → (f e : ℕ) (lent : List ℕ)
+    → readInto f e (first rows v) lent .result .outcome ≡ outcomeOf (first (thenRoom rows (length (packedIn v)) lent) v)
+reading-by rows v (made o b p q) f e lent = rw q (reading-rows rows f e o b p lent)
+
+-- The packed bytes of what the rows come to are those of the record, or none.
+packed-by : (rows : List Row) (v : Verdict) → (packedIn (first rows v) ≡ packedIn v) ⊎ (packedIn (first rows v) ≡ [])
+packed-by [] v = inl refl
+packed-by (r ∷ rows) v = go (heard r) (packed-by rows v)
+  where
+    go : Heard r → (packedIn (first rows v) ≡ packedIn v) ⊎ (packedIn (first rows v) ≡ [])
+        → (packedIn (first (r ∷ rows) v) ≡ packedIn v) ⊎ (packedIn (first (r ∷ rows) v) ≡ [])
+    go (nothing q) i = rw q i
+    go (something x q) i = inr (rw q)
+
+keeps-by : (a m n : ℕ) (old after : List ℕ) → Keeps a m old after → (m ≡ n) ⊎ (m ≡ 0) → Keeps a n old after
+keeps-by a m n old after k h = record {
+  refused = k .refused;
+  behind = λ z. ⊎-elim (λ (e : m ≡ n). rw e at (k .behind z)) (λ (e : m ≡ 0). ap (drop n) (rw e at (k .behind z))) h;
+}
+
 module _ (s : List ℕ) (place : ℕ) (lent : List ℕ) where
-  -- The rows of the table.
-  abbrev pub table : List Row
-  table = answerRows (found s place) lent
+  abbrev l : List ℕ
+  l = found s place
 
-  -- The record where none of them says anything.
-  abbrev pub itsRecord : Verdict
-  itsRecord = recordIn (found s place)
+  abbrev size : ℕ
+  size = length (packedIn (recordIn l))
 
-  -- Reading gives the answer and the detail of the table.
-  pub read-table : answered (read judge s place lent) ≡ outcomeOf (first table itsRecord)
-  unfolding read walk
-  read-table = go (start (drop place s) place)
-    where
-      go : Start (drop place s) place → answered (read judge s place lent) ≡ outcomeOf (first table itsRecord)
-      go (nowhere e₁ e₂) = rw (e₁, e₂)
-      go (here f t e₁ e₂) = rw (e₁, e₂) (reading-message (length s) f t lent)
+  abbrev outcome-read : Outcome
+  outcome-read = reads s place lent .result .report .outcome
 
-  -- Any other answer than 0 is given, with its detail, exactly when its row says so and no row before it says anything.
-  pub read-refuses : (n d : ℕ) → (n ≡ 0 → ⊥) → (answered (read judge s place lent) ≡ outcome n d) ↔ FirstSays table n d
-  read-refuses n d h =
-      let x = refuses table itsRecord (record-here (found s place)) n d in
-      ((λ e. x .0 (refused-by (first table itsRecord) n d h (sym read-table ∙ e))), (λ f. read-table ∙ ap outcomeOf (x .1 f)))
+  read-told : Found s place → outcome-read ≡ outcomeOf (first (thenRoom (walkRows l) size lent) (recordIn l))
+  unfolding read
+  read-told (nowhere e₁ e₂) =
+      ap (λ (o : Option Report). readReport judge (length s) o lent .result .outcome) e₂ ∙ sym (ap outcomeOf (nothing-room l size lent (recordIn l) e₁))
+  read-told (here r e₁ e₂) =
+      ap (λ (o : Option Report). readReport judge (length s) o lent .result .outcome) e₁
+      ∙ ap (λ (v : Verdict). readInto (r .start) (r .end) v lent .result .outcome) e₂
+      ∙ reading-by (walkRows l) (recordIn l) (record-made l) (r .start) (r .end) lent
 
-  table-refusals : Refusals table
-  table-refusals =
-      let m = message (found s place) in
-      (omega arith, (omega arith, (omega arith, all-append _ (messageRows m) _ (message-refusals m) (omega arith))))
+  abbrev Kept : Effect Reading → Type 0
+  Kept x = Keeps (x .result .outcome .answer) size lent (x .lent)
 
-  -- The answer is 0 exactly when no row says anything.
-  pub read-done : (read judge s place lent .answer ≡ 0) ↔ Silent table
-  read-done =
-      let answer = ap (λ (o : Outcome). o .answer) read-table in (
-        (λ e. zero-silent table itsRecord table-refusals (sym answer ∙ e)),
-        (λ a. answer ∙ ap answerOf (first-passed table itsRecord a) ∙ made-zero itsRecord (record-here (found s place))),
-      )
+  read-kept : Found s place → Kept (read judge s place lent)
+  unfolding read
+  read-kept (nowhere e₁ e₂) =
+      subst (λ (o : Option Report). Kept (readReport judge (length s) o lent)) (sym e₂) (record { refused = λ x. refl; behind = λ z. refl })
+  read-kept (here r e₁ e₂) =
+      let v = first (walkRows l) (recordIn l) in
+      let e = readInto (r .start) (r .end) v lent in
+      let some-packed : (length (packedIn v) ≡ size) ⊎ (length (packedIn v) ≡ 0) =
+      ⊎-elim (λ (q : packedIn v ≡ packedIn (recordIn l)). inl (ap length q)) (λ (q : packedIn v ≡ []). inr (ap length q)) (packed-by (walkRows l) (recordIn l)) in
+      let kept = keeps-by (e .result .outcome .answer) (length (packedIn v)) size lent (e .lent) (reading-keeps (r .start) (r .end) v lent) some-packed in
+      subst (λ (o : Option Report). Kept (readReport judge (length s) o lent)) (sym e₁)
+      (subst (λ (w : Verdict). Kept (readInto (r .start) (r .end) w lent)) (sym e₂) kept)
 
-  -- The detail is then the record's opcode.
-  pub read-opcode : read judge s place lent .answer ≡ 0 → read judge s place lent .detail ≡ detailOf itsRecord
-  read-opcode e = ap (λ (o : Outcome). o .detail) read-table ∙ ap detailOf (first-passed table itsRecord (read-done .0 e))
+  read-answered : Answered (thenRoom (walkRows l) size lent) (opcodeIn l) size lent outcome-read (reads s place lent .lent)
+  read-answered = record {
+    decides = decides-by (thenRoom (walkRows l) size lent) (recordIn l) _ (record-made l) (room-refusals l size lent) (read-told (finds s place));
+    keeps = read-kept (finds s place);
+  }
+
+-- With another answer than 0 no bytes come.
+abbrev NoBytes : Effect Reading → Type 0
+NoBytes e = (e .result .outcome .answer ≡ 0 → ⊥) → four (e .result .bytes) ≡ four []
+
+read-bare : (f e : ℕ) (v : Verdict) (lent : List ℕ) → NoBytes (readInto f e v lent)
+read-bare f e (done o b p) lent = by-room (leb (length p) (length lent)) refl
+  where
+    by-room : (t : Bool) → leb (length p) (length lent) ≡ t → NoBytes (readInto f e (done o b p) lent)
+    by-room true q = rw q (λ n. absurd (n refl))
+    by-room false q = rw q (λ n. refl)
+read-bare f e (refused r) lent = λ n. refl
+
+read-no-bytes : (s : List ℕ) (place : ℕ) (lent : List ℕ) → NoBytes (read judge s place lent)
+unfolding read
+read-no-bytes s place lent = by-walk (walk judge s place)
+  where
+    by-walk : (o : Option Report) → NoBytes (readReport judge (length s) o lent)
+    by-walk none = λ n. refl
+    by-walk (some r) = read-bare (r .start) (r .end) (r .verdict) lent
+
+-- Lent bytes of which no more may change than there are.
+all-behind : (new old : List ℕ) → length new ≡ length old → drop (length old) new ≡ drop (length old) old
+all-behind new old e = drop-of-length-le new {i = length old} (omega arith) ∙ sym (drop-of-length-le old {i = length old} (omega arith))
+
+with-byte-length : (o : Option ℕ) (b : ℕ) (p : List ℕ) → length (withByte o b p) ≡ length p
+with-byte-length none b p = refl
+with-byte-length (some k) b p = length-set p k b
+
+with-bus-length : (b s a d : ℕ) (p : List ℕ) → length (withBus b s a d p) ≡ length p
+unfolding withBus
+with-bus-length b s a d p = simp length-set
+
+both : (rows more : List Row) → Refusals rows → Refusals more → Refusals (rows ++ more)
+both rows more a b = all-append (λ (r : Row). numberOf r ≡ 0 → ⊥) rows more a b
+
+edit-answered : (n v : ℕ) (p : List ℕ) → let e = applying n v p in Answered (editRows n v ++ patchRows p) 0 (length p) p (e .result) (e .lent)
+unfolding applying
+edit-answered n v p =
+    let rows = editRows n v ++ patchRows p in
+    let new = withByte (placeOf n) (storedFor n v) p in
+    let a = both (editRows n v) (patchRows p) (edit-refusals n v) (patch-refusals p) in
+    record {
+      decides = changed-decides 0 new p rows a;
+      keeps = changed-keeps 0 new p (length p) rows (λ s. all-behind new p (with-byte-length (placeOf n) (storedFor n v) p)) a;
+    }
+
+bus-answered : (b s a d : ℕ) (p : List ℕ) → let e = applyingBus b s a d p in Answered (busRows b s a d ++ patchRows p) 0 (length p) p (e .result) (e .lent)
+unfolding applyingBus
+bus-answered b s a d p =
+    let rows = busRows b s a d ++ patchRows p in
+    let new = withBus b s a d p in
+    let r = both (busRows b s a d) (patchRows p) (bus-refusals b s a d) (patch-refusals p) in
+    record {
+      decides = changed-decides 0 new p rows r;
+      keeps = changed-keeps 0 new p (length p) rows (λ s′. all-behind new p (with-bus-length b s a d p)) r;
+    }
+
+name-answered : (p text : List ℕ) → let e = naming p text in Answered (nameRows p text) 0 8 p (e .result) (e .lent)
+unfolding naming
+name-answered p text =
+    let new = map stored text ++ drop 8 p in
+    let a : Refusals (nameRows p text) = (omega arith, (omega arith, (omega arith, field-refusals p))) in
+    let eight : Silent (nameRows p text) → drop 8 new ≡ drop 8 p = λ s. drop-at (map stored text) (drop 8 p) 8 (length-map text stored ∙ row-equal 7 (length text) 8 (s .1 .0)) in
+    record { decides = changed-decides 0 new p (nameRows p text) a; keeps = changed-keeps 0 new p 8 (nameRows p text) eight a }
+
+-- A bank with no bad patch: the patches' rows say nothing. With one: they refuse by it.
+bad-none : (n k : ℕ) (ps : List ℕ) → firstBad n k ps ≡ none → Silent (patchesRows n ps)
+unfolding firstBad
+bad-none zero k ps e = tt
+bad-none (suc n) k ps e = go (first (fieldRows (take 134 ps)) (done 0 [] [])) refl e (bad-none n (suc k) (drop 134 ps))
+  where
+    go : (v : Verdict) → first (fieldRows (take 134 ps)) (done 0 [] []) ≡ v → orLater k v (firstBad n (suc k) (drop 134 ps)) ≡ none
+        → (firstBad n (suc k) (drop 134 ps) ≡ none → Silent (patchesRows n (drop 134 ps))) → Silent (patchesRows (suc n) ps)
+    go (done o b p) q e i =
+        all-append (λ (r : Row). says r ≡ none) (fieldRows (take 134 ps)) (patchesRows n (drop 134 ps))
+        (done-passed (fieldRows (take 134 ps)) (done 0 [] []) o b p q .0) (i e)
+    go (refused r) q e i = let z : _≡_ {A = ℕ} 0 1 = cc in absurd (omega arith)
+
+bad-some : (n k : ℕ) (ps : List ℕ) (b : BankOutcome) (v : Verdict) → firstBad n k ps ≡ some b → first (patchesRows n ps) v ≡ refused (b .outcome)
+unfolding firstBad
+bad-some zero k ps b v e = let z : _≡_ {A = ℕ} 0 1 = cc in absurd (omega arith)
+bad-some (suc n) k ps b v e =
+    first-append (fieldRows (take 134 ps)) (patchesRows n (drop 134 ps)) v
+    ∙ go (first (fieldRows (take 134 ps)) (done 0 [] [])) refl e (bad-some n (suc k) (drop 134 ps) b v)
+  where
+    go : (w : Verdict) → first (fieldRows (take 134 ps)) (done 0 [] []) ≡ w → orLater k w (firstBad n (suc k) (drop 134 ps)) ≡ some b
+        → (firstBad n (suc k) (drop 134 ps) ≡ some b → first (patchesRows n (drop 134 ps)) v ≡ refused (b .outcome))
+        → first (fieldRows (take 134 ps)) (first (patchesRows n (drop 134 ps)) v) ≡ refused (b .outcome)
+    go (done o c p) q e i =
+        first-passed (fieldRows (take 134 ps)) (first (patchesRows n (drop 134 ps)) v) (done-passed (fieldRows (take 134 ps)) (done 0 [] []) o c p q .0) ∙ i e
+    go (refused r) q e i =
+        let same : record { outcome = r; place = k } ≡ b = cc in
+        given-first (fieldRows (take 134 ps)) (first (patchesRows n (drop 134 ps)) v) r (first-given (fieldRows (take 134 ps)) 0 [] [] r q)
+        ∙ ap (λ (x : BankOutcome). refused (x .outcome)) same
+
+bank-refusals : (n : ℕ) (ps : List ℕ) → Refusals (patchesRows n ps)
+bank-refusals zero ps = tt
+bank-refusals (suc n) ps = both (fieldRows (take 134 ps)) (patchesRows n (drop 134 ps)) (field-refusals (take 134 ps)) (bank-refusals n (drop 134 ps))
+
+module _ (ps out : List ℕ) where
+  abbrev wrongLength : Bool
+  wrongLength = not (eqb (length ps % 134) 0) || ltb (100 * 134) (length ps)
+
+  abbrev bytes : List ℕ
+  bytes = bankBytes ps
+
+  abbrev room : List Row
+  room = row 13 (ltb (length out) (length bytes)) ∷ []
+
+  -- What the bank comes to is what its table does.
+  record Told : Type 0 where
+    outcome-told : writingBank ps out .result .outcome ≡ outcomeOf (first (bankTable ps out) (done (length bytes) [] []))
+    kept : Keeps (writingBank ps out .result .outcome .answer) (length bytes) out (writingBank ps out .lent)
+
+  by-room : wrongLength ≡ false → firstBad (length ps / 134) 0 ps ≡ none → (t : Bool) → ltb (length out) (length bytes) ≡ t → Told
+  unfolding writingBank
+  by-room q e true u =
+      let over = passed-over (patchesRows (length ps / 134) ps) room (done (length bytes) [] []) (bad-none (length ps / 134) 0 ps e) in
+      record { outcome-told = rw (q, e, over, u); kept = rw (q, e, u) (record { refused = λ n. refl; behind = λ z. absurd (omega arith) }) }
+  by-room q e false u =
+      let over = passed-over (patchesRows (length ps / 134) ps) room (done (length bytes) [] []) (bad-none (length ps / 134) 0 ps e) in
+      record {
+        outcome-told = rw (q, e, over, u);
+        kept = rw (q, e, u) (record { refused = λ n. absurd (n refl); behind = λ z. drop-append-seam bytes (drop (length bytes) out) });
+      }
+
+  by-bad : wrongLength ≡ false → (o : Option BankOutcome) → firstBad (length ps / 134) 0 ps ≡ o → Told
+  unfolding writingBank
+  by-bad q none e = by-room q e (ltb (length out) (length bytes)) refl
+  by-bad q (some b) e =
+      let stops = first-append (patchesRows (length ps / 134) ps) room (done (length bytes) [] [])
+      ∙ bad-some (length ps / 134) 0 ps b (first room (done (length bytes) [] [])) e in
+      record { outcome-told = rw (q, e, stops); kept = rw (q, e) (record { refused = λ n. refl; behind = λ z. refl }) }
+
+  by-length : (t : Bool) → wrongLength ≡ t → Told
+  unfolding writingBank
+  by-length true q = record { outcome-told = rw q; kept = rw q (record { refused = λ n. refl; behind = λ z. absurd (omega arith) }) }
+  by-length false q = by-bad q (firstBad (length ps / 134) 0 ps) refl
+
+  bank-answered : let e = writingBank ps out in Answered (bankTable ps out) (length bytes) (length bytes) out (e .result .outcome) (e .lent)
+  bank-answered =
+      let told = by-length wrongLength refl in
+      let a : Refusals (bankTable ps out) =
+      (omega arith, both (patchesRows (length ps / 134) ps) room (bank-refusals (length ps / 134) ps) (omega arith)) in
+      record { decides = decides (bankTable ps out) (length bytes) [] [] _ a (told .outcome-told); keeps = told .kept }
+
+-- Demand 1, whole.
+pub demand-1 : Demand1
+unfolding showing writing
+demand-1 = record {
+  walk = λ s place.
+      let l = found s place in
+      decides-by (walkRows l) (recordIn l) _ (record-made l) (walk-refusals l) (walk-outcome s place);
+  reports-each = λ s.
+      all-weaken (λ r. walk judge s (r .start) ≡ some r)
+      (λ r. let l = found s (r .start) in Decides (walkRows l) (opcodeIn l) (outcomeOf (r .verdict)))
+      (λ r e. let l = found s (r .start) in
+      decides-by (walkRows l) (recordIn l) _ (record-made l) (walk-refusals l) (sym (ap (λ (o : Option Report). reportOr (length s) o .outcome) e) ∙ walk-outcome s (r .start)))
+      (reports judge s) (reread judge s);
+  read = read-answered;
+  read-bytes = read-no-bytes;
+  test = λ p. decides (patchRows p) 0 [] [] _ (patch-refusals p) refl;
+  set-name = name-answered;
+  show-name = λ p out.
+      let text = map shown (take 8 p) in
+      record { decides = written-decides (patchRows p) text out (patch-refusals p); keeps = written-keeps (patchRows p) text out (patch-refusals p) };
+  edit = edit-answered;
+  bus-edit = bus-answered;
+  write = λ k b p out.
+      let m = message k b p in
+      record { decides = written-decides (givenRows k b p) m out (given-refusals k b p); keeps = written-keeps (givenRows k b p) m out (given-refusals k b p) };
+  bank = bank-answered;
+}

@@ -7,7 +7,7 @@ use mathlib.Core.Option.{Option, none, some}
 use Prim.Native.Nat.{ℕ, zero, suc, _+_, _-_, _*_, _/_, _%_, _≤_, _<_}
 use native.Mathlib.Nat.{zero-add}
 use native.Mathlib.Numerals.{add-one}
-use native.Mathlib.Decide.{decLt}
+use native.Mathlib.Decide.{decLe}
 use native.Mathlib.Omega.{arith}
 use lib.Dec.{eqb, leb, ltb}
 use lib.ListN.{length, take, drop}
@@ -19,7 +19,7 @@ use Rattle.answers.specs.Effect.{toldAs, written}
 use Rattle.answers.proofs.Lists.{all-weaken}
 use Rattle.answers.proofs.Rows.{done-passed}
 use Rattle.frames.specs.Stream.{Report, report, reports}
-use Rattle.frames.specs.Scan.{outside, scan}
+use Rattle.frames.specs.Scan.{outside, inside, scan}
 use Rattle.frames.specs.Order.{InOrder}
 use Rattle.frames.proofs.Scan.{ahead, scan-exclusive, scan-outside}
 use Rattle.frames.proofs.Walk.{reports-scan, reports-order}
@@ -30,7 +30,7 @@ use Rattle.messages.specs.declared.kinds.Kind.{Kind}
 use Rattle.messages.specs.declared.kinds.Kind.the-variants.{Dump as ofDump}
 use Rattle.messages.specs.Kinds.{singlePatch, Filed as FiledKind, kindOf}
 use Rattle.messages.specs.Judge.{judge}
-use Rattle.messages.specs.Layout.{dump, message}
+use Rattle.messages.specs.Layout.{dump, message, givenRows}
 use Rattle.messages.proofs.Written.{Sound, sound}
 use Rattle.writing.specs.declared.BankOutcome.{BankOutcome}
 use Rattle.writing.specs.Writing.{writingBank, bankFrom, firstBad, orLater, noPlace, bankTested, unlessBad}
@@ -72,7 +72,7 @@ scan-bank place (suc n) k ps behind few long e =
     let p = take 134 (drop (k * 134) ps) in
     let good = none-bad-split n k (drop (k * 134) ps) e in
     let l : length p ≡ 134 = length-patch ps k (omega arith) in
-    let passes = (rw (eq-eqb (length p) 134 l), (rw (le-ltb 99 k (omega arith)), good .0)) in
+    let passes : Silent (givenRows (ofDump singlePatch) (k ∷ []) p) = (rw (eq-eqb (length p) 134 l), (rw (le-ltb 99 k (omega arith)), good .0)) in
     let s = sound (ofDump singlePatch) (k ∷ []) p filed-single refl tt passes in
     let further : k * 134 + 134 ≡ (k + 1) * 134 = omega arith in
     let rest = drop-drop 134 (k * 134) ps ∙ ap (λ (i : ℕ). drop i ps) further in
@@ -90,11 +90,16 @@ placed place zero k m ps h = tt
 placed place (suc n) k m ps h = (omega arith, placed place n (k + 1) m ps (omega arith))
 
 -- Whatever stands before a bank that is not empty, its first F0H starts a message.
+from-start : (before t : List ℕ) → scan judge 0 outside (before ++ 0xF0 ∷ t) ≡ ahead judge 0 outside before ++ scan judge (length before) outside (0xF0 ∷ t)
+from-start before t =
+    scan-exclusive judge before 0 outside t
+    ∙ ap (λ (m : ℕ). ahead judge 0 outside before ++ scan judge (suc m) (inside m []) t) (zero-add (length before))
+    ∙ ap (λ (l : List Report). ahead judge 0 outside before ++ l) (sym (scan-outside judge (length before) 0xF0 t))
+
 start-bank : (n : ℕ) (ps before behind : List ℕ) → scan judge 0 outside (before ++ (bankFrom (suc n) 0 ps ++ behind))
     ≡ ahead judge 0 outside before ++ scan judge (length before) outside (bankFrom (suc n) 0 ps ++ behind)
 unfolding bankFrom dump
-start-bank n ps before behind =
-    scan-exclusive judge before 0 outside _ ∙ rw (zero-add (length before), scan-outside judge (length before) 0xF0 _, eq-eqb 0xF0 0xF0 refl)
+start-bank n ps before behind = from-start before _
 
 lay-bank : (n : ℕ) (ps before behind : List ℕ) → suc n ≤ 100 → suc n * 134 ≤ length ps → firstBad (suc n) 0 ps ≡ none
     → Laid before (bankFrom (suc n) 0 ps) behind (bankReports (length before) (suc n) 0 ps)
@@ -103,10 +108,14 @@ lay-bank n ps before behind few long good =
     let size = length-bank (suc n) 0 ps (omega arith) in
     let here : f + 0 * 275 ≡ f = omega arith in
     let all : 0 + suc n ≡ suc n = omega arith in
-    let scanned = rw (here, all) at (scan-bank f (suc n) 0 ps behind (omega arith) (omega arith) good) in
+    let scanned =
+    ap (λ (x : ℕ). scan judge x outside (bankFrom (suc n) 0 ps ++ behind)) (sym here)
+    ∙ scan-bank f (suc n) 0 ps behind (omega arith) (omega arith) good
+    ∙ ap (λ (x : ℕ). bankReports f (suc n) 0 ps ++ scan judge (f + x * 275) outside behind) all in
     record {
       long = omega arith;
-      whole = reports-scan judge (stream before (bankFrom (suc n) 0 ps) behind) ∙ start-bank n ps before behind ∙ rw (scanned, size);
+      whole = reports-scan judge (stream before (bankFrom (suc n) 0 ps) behind) ∙ start-bank n ps before behind
+          ∙ rw size (ap (λ (x : List Report). ahead judge 0 outside before ++ x) scanned);
       placed = rw size (placed f (suc n) 0 (suc n) ps (omega arith));
     }
 
@@ -152,11 +161,11 @@ filed ps out e = by-length (eqb (length ps % 134) 0) (ltb 13400 (length ps)) ref
 -- The reports of any stream stand in two parts by where they start.
 in-two : (l : List Report) (p n m : ℕ) → InOrder p n l → l ≡ startBefore m l ++ startFrom m l
 in-two [] p n m o = refl
-in-two (r ∷ l) p n m o = by-test (decLt (r .start) m)
+in-two (r ∷ l) p n m o = by-test (in-two l (r .end) n m (o .3)) (decLe (suc (r .start)) m)
   where
-    by-test : Dec (r .start < m) → r ∷ l ≡ startBefore m (r ∷ l) ++ startFrom m (r ∷ l)
-    by-test (yes h) = rw (lt-ltb (r .start) m h, lt-leb m (r .start) h) (ap (λ (x : List Report). r ∷ x) (in-two l (r .end) n m (o .3)))
-    by-test (no h) =
+    by-test : l ≡ startBefore m l ++ startFrom m l → Dec (suc (r .start) ≤ m) → r ∷ l ≡ startBefore m (r ∷ l) ++ startFrom m (r ∷ l)
+    by-test i (yes h) = rw (lt-ltb (r .start) m h, lt-leb m (r .start) h) (ap (λ (x : List Report). r ∷ x) i)
+    by-test i (no h) =
         let far : m ≤ r .start = omega (arith, h) in
         let later : All (λ q. m ≤ q .start) l = order-from l m (r .end) n (omega arith) (o .3) in
         rw (

@@ -1,15 +1,26 @@
--- Demand 1 for reading a record: document 01's table as one list of rows, from 1 to 13, in its order.
-use mathlib.Core.Bool.{Bool, true, false, cond, not}
-use mathlib.Core.List.{List, [], _∷_, _++_}
-use Prim.Native.Nat.{ℕ}
+-- Demand 1: the answer and the detail of every routine are those of the first row of its table that holds, done exactly when none does; refused, every
+-- lent byte is the same, and done, those behind the output are.
+use mathlib.Core.Path.{_≡_}
+use mathlib.Core.Bool.{Bool, true, false, cond, not, _||_}
+use mathlib.Core.List.{List, [], _∷_, _++_, map}
+use Prim.Native.Nat.{ℕ, zero, suc, _*_, _/_, _%_}
 use lib.Dec.{eqb, ltb}
-use lib.ListN.{length, drop, getD}
-use Rattle.answers.specs.Table.{Row, row, Verdict, done, refused, answerOf, detailOf, outcome}
+use lib.ListN.{length, take, drop, getD}
 use Rattle.answers.specs.declared.Outcome.{Outcome}
+use Rattle.answers.specs.Lists.{All}
+use Rattle.answers.specs.Table.{Row, row, Verdict, outcomeOf, four}
+use Rattle.answers.specs.Effect.{Effect, tested, Keeps, Decides}
 use Rattle.frames.specs.Bytes.{body, withoutRealTime, framed}
-use Rattle.frames.specs.Stream.{Reading}
+use Rattle.frames.specs.Stream.{packedIn, reports}
+use Rattle.patch.specs.Patch.{fieldRows, patchRows}
+use Rattle.names.specs.Names.{shown, nameRows, naming, showing}
+use Rattle.edits.specs.Edits.{editRows, busRows, applying, applyingBus}
+use Rattle.messages.specs.declared.kinds.Kind.{Kind}
 use Rattle.messages.specs.Kinds.{kindOf}
-use Rattle.messages.specs.Judge.{byteAt, recordOf, messageRows}
+use Rattle.messages.specs.Judge.{byteAt, recordOf, messageRows, judge}
+use Rattle.messages.specs.Layout.{message, givenRows}
+use Rattle.reading.specs.Told.{walked, reads}
+use Rattle.writing.specs.Writing.{writing, bankFrom, writingBank}
 
 -- The bytes from the first F0H on.
 unfoldable pub fromStart : List ℕ → List ℕ
@@ -21,20 +32,7 @@ abbrev pub isEmpty : List ℕ → Bool
 isEmpty [] = true
 isEmpty (b ∷ s) = false
 
--- A dump's packed bytes.
-abbrev pub packedIn : Verdict → List ℕ
-packedIn (done o b p) = p
-packedIn (refused n d) = []
-
--- The answer and the detail of a verdict.
-abbrev pub outcomeOf : Verdict → Outcome
-outcomeOf v = outcome (answerOf v) (detailOf v)
-
--- The answer and the detail of a reading.
-abbrev pub answered : Reading → Outcome
-answered r = outcome (r .answer) (r .detail)
-
--- What reading a record finds: the bytes from the first F0H at a place or later.
+-- What the walk finds: the bytes from the first F0H at a place or later.
 abbrev pub found : List ℕ → ℕ → List ℕ
 found s place = fromStart (drop place s)
 
@@ -44,17 +42,76 @@ module _ (l : List ℕ) where
   ending = drop (length (body (drop 1 l))) (drop 1 l)
 
   -- The complete message, its real-time bytes dropped.
-  abbrev pub message : List ℕ
-  message = framed (withoutRealTime (body (drop 1 l)))
+  abbrev pub complete : List ℕ
+  complete = framed (withoutRealTime (body (drop 1 l)))
 
-  -- The record that it has if nothing refuses it.
+  -- The record that it has if nothing refuses it, and its opcode, which is then the detail.
   abbrev pub recordIn : Verdict
-  recordIn = recordOf (kindOf (byteAt message 3)) message
+  recordIn = recordOf (kindOf (byteAt complete 3)) complete
 
-  -- No F0H; cut; interrupted; the rows of a complete message, 4 to 12 with 14 behind 8; the lent buffer too short.
-  abbrev pub answerRows : List ℕ → List Row
-  answerRows lent =
+  abbrev pub opcodeIn : ℕ
+  opcodeIn = outcomeOf recordIn .detail
+
+  -- The walk's table: no F0H; cut; interrupted; the rows of a complete message, 4 to 12 with 14 behind 8.
+  abbrev pub walkRows : List Row
+  walkRows =
       row 1 (isEmpty l) ∷
       row 2 (isEmpty ending) ∷
       row 3 (not (eqb (getD ending 0 0) 0xF7)) ∷
-      (messageRows message ++ (row 13 (ltb (length lent) (length (packedIn recordIn))) ∷ []))
+      messageRows complete
+
+-- 13 behind the rows: a lent output too short for so many bytes.
+abbrev pub thenRoom : List Row → ℕ → List ℕ → List Row
+thenRoom rows n out = rows ++ (row 13 (ltb (length out) n) ∷ [])
+
+-- A call that is lent bytes of which it may change the first n.
+pub record Answered (rows : List Row) (detail n : ℕ) (old : List ℕ) (o : Outcome) (after : List ℕ) : Type 0 where
+  pub decides : Decides rows detail o
+  pub keeps : Keeps (o .answer) n old after
+
+-- The rows of a bank's n patches, patch after patch, and its table.
+abbrev pub patchesRows : ℕ → List ℕ → List Row
+patchesRows zero ps = []
+patchesRows (suc n) ps = fieldRows (take 134 ps) ++ patchesRows n (drop 134 ps)
+
+abbrev pub bankBytes : List ℕ → List ℕ
+bankBytes ps = bankFrom (length ps / 134) 0 ps
+
+abbrev pub bankTable : List ℕ → List ℕ → List Row
+bankTable ps out =
+    row 7 (not (eqb (length ps % 134) 0) || ltb (100 * 134) (length ps)) ∷
+    thenRoom (patchesRows (length ps / 134) ps) (length (bankBytes ps)) out
+
+-- Demand 1, whole.
+pub record Demand1 : Type 0 where
+  pub walk : (s : List ℕ) (place : ℕ) → let l = found s place in Decides (walkRows l) (opcodeIn l) (walked s place .outcome)
+  -- each report of a stream answers as the walk from its start
+  pub reports-each : (s : List ℕ) → All (λ r. let l = found s (r .start) in Decides (walkRows l) (opcodeIn l) (outcomeOf (r .verdict))) (reports judge s)
+  pub read : (s : List ℕ) (place : ℕ) (lent : List ℕ)
+      → let l = found s place in
+      let n = length (packedIn (recordIn l)) in
+      let e = reads s place lent in
+      Answered (thenRoom (walkRows l) n lent) (opcodeIn l) n lent (e .result .report .outcome) (e .lent)
+  -- the bytes that come with the answer are zero with every answer but 0
+  pub read-bytes : (s : List ℕ) (place : ℕ) (lent : List ℕ)
+      → let r = reads s place lent .result in (r .report .outcome .answer ≡ 0 → ⊥) → r .bytes ≡ four []
+  pub test : (p : List ℕ) → Decides (patchRows p) 0 (tested (patchRows p))
+  pub set-name : (p text : List ℕ) → let e = naming p text in Answered (nameRows p text) 0 8 p (e .result) (e .lent)
+  -- the text is eight characters where the patch has its length, and 7 where it has not
+  pub show-name : (p out : List ℕ)
+      → let n = length (map shown (take 8 p)) in
+      let e = showing p out in
+      Answered (thenRoom (patchRows p) n out) n n out (e .result) (e .lent)
+  pub edit : (parameter v : ℕ) (p : List ℕ)
+      → let e = applying parameter v p in Answered (editRows parameter v ++ patchRows p) 0 (length p) p (e .result) (e .lent)
+  pub bus-edit : (bus source amount destination : ℕ) (p : List ℕ)
+      → let e = applyingBus bus source amount destination p in
+      Answered (busRows bus source amount destination ++ patchRows p) 0 (length p) p (e .result) (e .lent)
+  pub write : (k : Kind) (b p out : List ℕ)
+      → let n = length (message k b p) in
+      let e = writing k b p out in
+      Answered (thenRoom (givenRows k b p) n out) n n out (e .result) (e .lent)
+  pub bank : (ps out : List ℕ)
+      → let n = length (bankBytes ps) in
+      let e = writingBank ps out in
+      Answered (bankTable ps out) n n out (e .result .outcome) (e .lent)

@@ -94,9 +94,9 @@ starred =
     gives (writes (ofShort remoteEdit) (edit 0x00 0x40)) (effect (outcome 11 9) room) ∷
     gives (applying 0x00 0x40 P) (effect (outcome 11 9) P) ∷
     -- Parameter 39: 8, whatever the value.
-    gives (λ (v : ℕ). reads (ofShort remoteEdit) (edit 39 v)) (λ (v : ℕ). refused (outcome 8 0)) ∷
-    gives (λ (v : ℕ). writes (ofShort remoteEdit) (edit 39 v)) (λ (v : ℕ). effect (outcome 8 0) room) ∷
-    gives (λ (v : ℕ). applying 39 v P) (λ (v : ℕ). effect (outcome 8 0) P) ∷
+    gives {A = ℕ → Verdict} (λ (v : ℕ). reads (ofShort remoteEdit) (edit 39 v)) (λ (v : ℕ). refused (outcome 8 0)) ∷
+    gives {A = ℕ → Effect Outcome} (λ (v : ℕ). writes (ofShort remoteEdit) (edit 39 v)) (λ (v : ℕ). effect (outcome 8 0) room) ∷
+    gives {A = ℕ → Effect Outcome} (λ (v : ℕ). applying 39 v P) (λ (v : ℕ). effect (outcome 8 0) P) ∷
     -- Bus 9, source 20, amount 40H, destination 31: bytes 131-133 are 14H, C0H, 1FH.
     gives (reads (ofShort busEdit) (bus 9 20 0x40 31)) (recordFor (ofShort busEdit) (bus 9 20 0x40 31) []) ∷
     gives (applyingBus 9 20 0x40 31 P) (effect (outcome 0 0) (zerosBut 134 ((76, 1) ∷ (131, 0x14) ∷ (132, 0xC0) ∷ (133, 0x1F) ∷ []))) ∷

@@ -21,10 +21,10 @@ edit-counted c = c .before .before .if1 .left ∙ c .before .before .before .cou
 bus-counted : (c : tie.After-enum-told2) → length (c .before .before .before .before .before .args .bytes .now) ≡ 4
 bus-counted c = c .before .before .if1 .left ∙ c .before .before .before .count-of .ensures ∙ ap countOf (c .enum-told2 .given .1)
 
-edit-first : tie.Need-shared-slice-read-test-edit
+edit-first : tie.Need-shared-slice-read-t8
 edit-first c = omega (arith, edit-counted (c .before))
 
-edit-second : tie.Need-shared-slice-read-test-edit-2
+edit-second : tie.Need-shared-slice-read-test-edit
 edit-second c = omega (arith, edit-counted (c .before .before))
 
 bus-first : tie.Need-shared-slice-read-test-bus-edit
