@@ -1,62 +1,81 @@
 // Prints the reports of the messages on standard input, a line each: start, end, answer and detail; behind one with answer 0, the four
 // bytes that come with its record. Each is asked of the cursor crate, from the last end.
-// Below it: answers, reading, cursor.
 use answers::DONE;
 use answers::NO_MESSAGE;
 use libc::STDIN_FILENO;
 use libc::STDOUT_FILENO;
+use reading::recording::Reading;
 use reading::walking::Report;
-
-// Programs take at most this many bytes.
-const MOST: usize = 65536;
-
-// A number in decimal, and the text behind it.
-fn print(n: usize, behind: &[u8]) {
-    io::print_decimal(STDOUT_FILENO, n as u64);
-    io::write_all(STDOUT_FILENO, behind);
-}
+ghost use mathlib.Core.List.{[], _∷_, _++_};
+ghost use Rattle.io.specs.Counts.{Counts};
+ghost use Rattle.text.specs.Text.{ascii, row, Puts};
 
 // A report's line.
-fn print_line(r: Report) {
-    print(r.start, b" ");
-    print(r.end, b" ");
-    print(r.answer as usize, b" ");
-    print(r.detail, b"\n");
+fn put_report(r: Report, room: &mut [u8]) -> usize
+    ensures { λ n. ⌜ Puts (row (r .start ∷ r .end ∷ r .outcome .answer ∷ r .outcome .detail ∷ [])) (now (room .entry)) 0 (now (room .exit)) n ⌝ }
+    ensures { λ n. ⌜ Counts n (now (room .exit)) ⌝ }
+{
+    let numbers = [r.start, r.end, r.outcome.answer as usize, r.outcome.detail];
+    text::put_row(room, 0, &numbers)
 }
 
-// The bytes that come with the record at a place.
-fn print_record(s: &[u8], place: usize) {
+// The line of the bytes that come with a record.
+fn put_record(r: Reading, room: &mut [u8]) -> usize
+    ensures { λ n. ⌜ Puts (ascii "record " ++ row (r .bytes)) (now (room .entry)) 0 (now (room .exit)) n ⌝ }
+    ensures { λ n. ⌜ Counts n (now (room .exit)) ⌝ }
+{
+    let numbers = [
+        r.first as usize,
+        r.second as usize,
+        r.third as usize,
+        r.fourth as usize,
+    ];
+    let end = text::put(room, 0, b"record ");
+    text::put_row(room, end, &numbers)
+}
+
+// The record of the message at a place.
+fn print_record(s: &[u8], place: usize, room: &mut [u8]) {
     let mut buffer = [0u8; 172];
-    let r = cursor::read_from(s, place, &mut buffer);
-    io::write_all(STDOUT_FILENO, b"record ");
-    print(r.first as usize, b" ");
-    print(r.second as usize, b" ");
-    print(r.third as usize, b" ");
-    print(r.fourth as usize, b"\n");
+    let n = put_record(cursor::read_from(s, place, &mut buffer), room);
+    io::write_all(STDOUT_FILENO, &room[..n]);
+}
+
+// A report of the message at a place, and its record if it has one.
+fn print_report(s: &[u8], place: usize, r: Report, room: &mut [u8]) {
+    let n = put_report(r, room);
+    io::write_all(STDOUT_FILENO, &room[..n]);
+    if r.outcome.answer == DONE {
+        print_record(s, place, room);
+    }
 }
 
 // The reports of an input. Each message has a byte at least, so there are no more than bytes.
-fn list(s: &[u8]) {
+fn print_reports(s: &[u8], room: &mut [u8]) {
     let mut place: usize = 0;
     for _ in 0..s.len() {
         let r = cursor::report_from(s, place);
-        if r.answer == NO_MESSAGE {
+        if r.outcome.answer == NO_MESSAGE {
             return;
         }
-        print_line(r);
-        if r.answer == DONE {
-            print_record(s, place);
-        }
+        print_report(s, place, r, room);
         place = r.end;
     }
 }
 
+// That the input is too long, alone.
+fn print_too_long(room: &mut [u8]) {
+    let n = listing::put_too_long(room, 0);
+    io::write_all(STDOUT_FILENO, &room[..n]);
+}
+
 fn main() {
-    let mut input = [0u8; 65537];
+    let mut input = [0u8; listing::MOST + 1];
     let n = io::read_full(STDIN_FILENO, &mut input);
-    if MOST < n {
-        io::write_all(STDOUT_FILENO, b"input too long\n");
+    let mut room = io::buffer();
+    if listing::MOST < n {
+        print_too_long(&mut room);
         return;
     }
-    list(&input[..n]);
+    print_reports(&input[..n], &mut room);
 }

@@ -1,1 +1,4 @@
-pub mod Text
+pub mod Lines
+pub mod Steps
+pub mod Joined
+pub mod Example

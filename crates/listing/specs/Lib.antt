@@ -1,1 +1,4 @@
-pub mod Text
+pub mod Listing
+pub mod Pieces
+pub mod Steps
+pub mod Example

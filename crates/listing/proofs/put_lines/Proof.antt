@@ -1,20 +1,45 @@
--- `put_lines` makes room behind each line. The invariant: room for a line is left. The measure is what is left of the reports.
-use mathlib.Core.Path.{_≡_, sym}
-use Prim.Native.Nat.{_+_, _≤_, _-_}
+-- `put_lines` puts row after row. The measure is what is left of the count.
+use mathlib.Core.Path.{_≡_}
+use Prim.Native.Nat.{_+_, _*_, _≤_, _-_}
 use native.Mathlib.Omega.{arith}
-use lib.ListN.{length}
-use lib.Seq.{length-take-le}
+use lib.ListN.{length, drop}
+use borrow.Author.Needs.{needs}
+use Rattle.text.proofs.Puts.{Underway, put-on, put-whole}
+use Rattle.reading.specs.Rooms.{width}
+use Rattle.listing.specs.Steps.{rows}
+use Rattle.listing.proofs.Lines.{rows-next}
 use Rattle.listing.proofs.put_lines.Statement.{statement}
 use Rattle.listing.proofs.put_lines.Tie as tie
 
 abbrev Inv-loop : tie.InvT-loop
-Inv-loop text₀ at room count end₀ i₀ text end i = (length text ≡ length text₀) × (end + 84 ≤ length text₀) × (i ≤ count)
+Inv-loop room₀ at numbers count end₀ i₀ room end i =
+    (length room ≡ length room₀)
+    × (i ≤ count)
+    × Underway (rows width count numbers) (rows width (count - i) (drop (width * i) numbers)) room₀ at room end
 
 abbrev μ-loop : tie.MeasureT-loop
-μ-loop text₀ at room count end₀ i₀ text end i = count - i
+μ-loop room₀ at numbers count end₀ i₀ room end i = count - i
 
-make-room-requires : tie.Need-make-room-requires Inv-loop μ-loop
-make-room-requires c κs = ((omega arith, sym (length-take-le _ _ (omega arith))), omega arith)
+loop-holds : tie.Need-loop-holds Inv-loop μ-loop
+loop-holds c =
+    let a = c .before .before .args in
+    let all : a .count - 0 ≡ a .count = omega arith in
+    (omega arith, omega arith, λ new f p. rw all at p)
+
+loop-again : tie.Need-loop-again Inv-loop μ-loop
+loop-again c =
+    let l = c .before .before .before .before .before .before .loop in
+    let a = c .before .before .before .before .before .before .before .before .before .args in
+    let next = rows-next (a .numbers .now) (a .count) (l .i) (omega arith) in
+    let all : width * l .i + width - width * l .i ≡ width = omega arith in
+    (omega arith, omega arith, put-on next (l .inv .2) (rw all at (c .before .before .put-row .ensures)))
+
+returns : tie.Need-returns Inv-loop μ-loop
+unfolding rows
+returns c =
+    let l = c .before .loop in
+    let none : c .before .before .before .before .args .count - l .i ≡ 0 = omega arith in
+    put-whole (rw (none, rows)) (l .inv .2)
 
 pub put-lines-spec : {M : Type 1} → statement M
 put-lines-spec =
@@ -22,12 +47,16 @@ put-lines-spec =
     (tie.spec
     Inv-loop
     μ-loop
-    (λ c. omega arith)
-    (λ c. omega arith)
-    (λ c κs. omega arith)
-    make-room-requires
+    loop-holds
     (λ c. omega arith)
     (λ c. omega arith)
     (λ c. omega arith)
     (λ c. omega arith)
-    (λ c. omega arith))
+    (λ c. omega arith)
+    (λ c. omega arith)
+    (λ c κs. search needs)
+    (λ c. omega arith)
+    (λ c. omega arith)
+    loop-again
+    (λ c. omega arith)
+    returns)

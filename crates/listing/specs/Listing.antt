@@ -1,0 +1,35 @@
+-- The listing of an input: all that the program prints for the bytes on its standard input.
+use mathlib.Core.Bool.{cond}
+use mathlib.Core.List.{List, [], _∷_, _++_}
+use Prim.Native.Nat.{ℕ}
+use lib.Dec.{leb}
+use lib.ListN.{length}
+use Rattle.text.specs.Text.{ascii, followed, row}
+use Rattle.frames.specs.Stream.{Report, reports}
+use Rattle.messages.specs.Judge.{judge}
+use Rattle.reading.specs.Rooms.{numbersOf}
+
+-- Programs take at most this many bytes.
+abbrev pub most : ℕ
+most = 65536
+
+unfoldable pub header : List ℕ
+header = ascii "start end answer detail\n"
+
+-- A line for each report: its numbers, in decimal.
+unfoldable pub lines : List Report → List ℕ
+lines [] = []
+lines (r ∷ rs) = row (numbersOf r) ++ lines rs
+
+-- The last line: how many messages there are.
+unfoldable pub total : ℕ → List ℕ
+total n = ascii "messages " ++ followed n 0x0A
+
+unfoldable pub tooLong : List ℕ
+tooLong = ascii "input too long\n"
+
+unfoldable pub listingOf : List ℕ → List ℕ
+listingOf s =
+    cond (leb (length s) most)
+    (header ++ (lines (reports judge s) ++ total (length (reports judge s))))
+    tooLong
