@@ -4,10 +4,8 @@
 use reading::recording::Reading;
 use reading::walking::Report;
 ghost use mathlib.Core.Path.{_≡_};
-ghost use Rattle.frames.specs.Stream.{read};
-ghost use Rattle.messages.specs.Judge.{judge};
-ghost use Rattle.reading.specs.Read.{Reads};
-ghost use Rattle.reading.specs.Walk.{walked};
+ghost use Rattle.answers.specs.Effect.{Gives};
+ghost use Rattle.reading.specs.Told.{walked, reads};
 
 // An input, and a place of it.
 pub struct Cursor<'a> {
@@ -48,7 +46,7 @@ pub fn next<'a>(c: Cursor<'a>) -> Report
 
 // Reading a record from where it stands.
 pub fn read_record<'a, 'b>(c: Cursor<'a>, buffer: &'b mut [u8]) -> Reading
-    ensures { λ r. ⌜ Reads (read judge (now (c .entry .input)) (c .entry .place) (now (buffer .entry))) r (now (buffer .exit)) ⌝ }
+    ensures { λ r. ⌜ Gives (reads (now (c .entry .input)) (c .entry .place) (now (buffer .entry))) r (now (buffer .exit)) ⌝ }
 {
     reading::recording::read(c.input, c.place, buffer)
 }
@@ -62,7 +60,7 @@ pub fn report_from(s: &[u8], place: usize) -> Report
 
 // Reading a record of an input from a place, by way of a cursor.
 pub fn read_from(s: &[u8], place: usize, buffer: &mut [u8]) -> Reading
-    ensures { λ r. ⌜ Reads (read judge (now (s .entry)) place (now (buffer .entry))) r (now (buffer .exit)) ⌝ }
+    ensures { λ r. ⌜ Gives (reads (now (s .entry)) place (now (buffer .entry))) r (now (buffer .exit)) ⌝ }
 {
     read_record(moved(over(s), place), buffer)
 }

@@ -4,9 +4,11 @@ use answers::DONE;
 use answers::NO_MESSAGE;
 use libc::STDIN_FILENO;
 use libc::STDOUT_FILENO;
+use messages::kinds::MASTER;
 use reading::recording::Reading;
 use reading::walking::Report;
 ghost use mathlib.Core.List.{[], _∷_, _++_};
+ghost use Rattle.answers.specs.Table.{four};
 ghost use Rattle.io.specs.Counts.{Counts};
 ghost use Rattle.text.specs.Text.{ascii, row, Puts};
 
@@ -21,14 +23,15 @@ fn put_report(r: Report, room: &mut [u8]) -> usize
 
 // The line of the bytes that come with a record.
 fn put_record(r: Reading, room: &mut [u8]) -> usize
-    ensures { λ n. ⌜ Puts (ascii "record " ++ row (r .bytes)) (now (room .entry)) 0 (now (room .exit)) n ⌝ }
+    ensures { λ n. ⌜ Puts (ascii "record " ++ row (four (r .bytes))) (now (room .entry)) 0 (now (room .exit)) n ⌝ }
     ensures { λ n. ⌜ Counts n (now (room .exit)) ⌝ }
 {
+    let bytes = r.bytes;
     let numbers = [
-        r.first as usize,
-        r.second as usize,
-        r.third as usize,
-        r.fourth as usize,
+        bytes[0] as usize,
+        bytes[1] as usize,
+        bytes[2] as usize,
+        bytes[3] as usize,
     ];
     let end = text::put(room, 0, b"record ");
     text::put_row(room, end, &numbers)
@@ -36,7 +39,7 @@ fn put_record(r: Reading, room: &mut [u8]) -> usize
 
 // The record of the message at a place.
 fn print_record(s: &[u8], place: usize, room: &mut [u8]) {
-    let mut buffer = [0u8; 172];
+    let mut buffer = [0u8; MASTER];
     let n = put_record(cursor::read_from(s, place, &mut buffer), room);
     io::write_all(STDOUT_FILENO, &room[..n]);
 }

@@ -41,7 +41,7 @@ use denote.Triple.Table.{entered, cited}
 use denote.Triple.Walked.{says, Stays, stay-none, walkOf, goes-none, Walks, ends-at, walked, walk-meets}
 use denote.Exit.{yes}
 use denote.Triple.Clauses.{ensured, lasts}
-use Rattle.reading.specs.Walk.{walked as reportFrom}
+use Rattle.reading.specs.Told.{walked as reportFrom}
 use Rattle.cursor.specs.declared.Cursor.{Cursor}
 use Rattle.reading.specs.declared.walking.Report.{Report}
 use Rattle.cursor.proofs.Cursor as T

@@ -37,9 +37,8 @@ use denote.Triple.Table.{entered, cited}
 use denote.Triple.Walked.{says, Stays, stay-none, stay-none-slice, gave-slice, walkOf, goes-none, goes-none-slice, goes-gave-slice, Walks, ends-at, walked, walk-meets}
 use denote.Exit.{yes}
 use denote.Triple.Clauses.{ensured, lasts}
-use Rattle.frames.specs.Stream.{Reading as Whole, read as readFrom}
-use Rattle.messages.specs.Judge.{judge}
-use Rattle.reading.specs.Read.{Reads}
+use Rattle.answers.specs.Effect.{Effect, Gives}
+use Rattle.reading.specs.Told.{reads}
 use Rattle.reading.specs.declared.recording.Reading.{Reading}
 use Rattle.reading.proofs.recording.Reading as S
 use Rattle.reading.proofs.recording.Reading.Laws as S′
@@ -85,7 +84,7 @@ module _ {M : Type 1} (𝓤 : URA M) (H : Heap 𝓤) (A : Atoms 𝓤) (W : Given
 
   -- what is said of the reading from a place of an input and of the buffer's last bytes
   abbrev Said : RefT (List ℕ) → ℕ → Reading → List ℕ → Type 0
-  Said i k r zs = Reads (readFrom judge (now i) k ys) r zs
+  Said i k r zs = Gives (reads (now i) k ys) r zs
 
   abbrev vals : Vals read-from.signature κs
   vals = (v s ∷ [], (vint w64 n ∷ [], (v x ∷ [], tt)))
@@ -159,7 +158,7 @@ module _ {M : Type 1} (𝓤 : URA M) (H : Heap 𝓤) (A : Atoms 𝓤) (W : Given
         land ! (from ! (stop !)) (init ! 18 refl (LL.lawful S.the-type S′.the-laws 𝓤 H A W .typed t _ is₂ .0)) $
         returns ! (look ! 18 refl) $ forget ! 4 refl $ forget ! 6 refl $ forget ! 8 refl $ forget ! 10 refl $ forget ! 12 refl $ forget ! 14 refl $ forget ! 16 refl $ forget ! 18 refl $
         move ! (18 ∷ 19 ∷ []) $ free1 ! $ move ! (16 ∷ 17 ∷ []) $ free1 ! $ move ! (14 ∷ 15 ∷ []) $ free1 ! $ move ! (12 ∷ 13 ∷ []) $ free1 ! $ move ! (10 ∷ 11 ∷ []) $ free1 ! $ move ! (8 ∷ 9 ∷ []) $ free1 ! $ move ! (6 ∷ 7 ∷ []) $ free1 ! $ move ! (4 ∷ 5 ∷ []) $ free1 ! $ free0 ! $
-        by ! (exits t u₂ (zs .1 .0) (subst (λ (e : Whole). Reads e t (zs .1 .0)) (by-cursors (λ (i : RefT (List ℕ)) (k : ℕ). readFrom judge (now i) k ys) s n r r₁ e e₁) e₂) l)))))))))))))))))))))))
+        by ! (exits t u₂ (zs .1 .0) (subst (λ (e : Effect Reading). Gives e t (zs .1 .0)) (by-cursors (λ (i : RefT (List ℕ)) (k : ℕ). reads (now i) k ys) s n r r₁ e e₁) e₂) l)))))))))))))))))))))))
 
 module _ {M : Type 1} (𝓤 : URA M) (H : Heap 𝓤) (A : Atoms 𝓤) (W : Given 𝓤 H A) (mem : Memory → SProp 𝓤) (run : Routine → Fun 𝓤) where
   read-from-walks : (C : Calls 𝓤 H) (Λ : Loops 𝓤 H) → FmC 𝓤 H (W .laws) C → Triple 𝓤 (C #cursor·over) (Over 𝓤 H A mem run) → Triple 𝓤 (C #cursor·moved) (Moved 𝓤 H A mem run) → Triple 𝓤 (C #cursor·read-record) (Record 𝓤 H A mem run)

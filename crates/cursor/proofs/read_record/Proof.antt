@@ -41,9 +41,8 @@ use denote.Triple.Table.{entered, cited}
 use denote.Triple.Walked.{says, Stays, stay-none, gave-slice, walkOf, goes-none, goes-gave-slice, Walks, ends-at, walked, walk-meets}
 use denote.Exit.{yes}
 use denote.Triple.Clauses.{ensured, lasts}
-use Rattle.frames.specs.Stream.{read as readFrom}
-use Rattle.messages.specs.Judge.{judge}
-use Rattle.reading.specs.Read.{Reads}
+use Rattle.answers.specs.Effect.{Effect, Gives}
+use Rattle.reading.specs.Told.{reads}
 use Rattle.reading.specs.declared.recording.Reading.{Reading}
 use Rattle.reading.proofs.recording.Reading as S
 use Rattle.reading.proofs.recording.Reading.Laws as S′
@@ -95,7 +94,7 @@ module _ {M : Type 1} (𝓤 : URA M) (H : Heap 𝓤) (A : Atoms 𝓤) (W : Given
 
   -- what is said of the reading and of the buffer's last bytes
   abbrev Said : Reading → List ℕ → Type 0
-  Said r zs = Reads (readFrom judge (now (d .input)) (d .place) ys) r zs
+  Said r zs = Gives (reads (now (d .input)) (d .place) ys) r zs
 
   abbrev vals : Vals read-record.signature κs
   vals = (mach ∷ [], (w ∷ [], tt))

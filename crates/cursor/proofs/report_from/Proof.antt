@@ -35,7 +35,7 @@ use denote.Triple.Table.{entered, cited}
 use denote.Triple.Walked.{says, Stays, stay-none, stay-none-slice, walkOf, goes-none, goes-none-slice, Walks, ends-at, walked, walk-meets}
 use denote.Exit.{yes}
 use denote.Triple.Clauses.{ensured, lasts}
-use Rattle.reading.specs.Walk.{walked as reportFrom}
+use Rattle.reading.specs.Told.{walked as reportFrom}
 use Rattle.reading.specs.declared.walking.Report.{Report}
 use Rattle.reading.proofs.walking.Report as S
 use Rattle.reading.proofs.walking.Report.Laws as S′
