@@ -2,6 +2,7 @@
 //!
 //!     compare [COUNT] [SEED]     COUNT inputs for each routine (3,000), from SEED on (0)
 //!     compare long [MIB]         reports and growth on inputs of MIB mebibytes (64)
+//!     compare routines           the names of the routines that are compared
 //!
 //! Input number i of a routine is made from seed SEED + i alone. A difference prints that seed, all
 //! that was lent, and what either program returned and left, and ends the run with status 1.
@@ -28,10 +29,16 @@ fn main() -> ExitCode {
     let held = match words[..] {
         ["long"] => long::run(64),
         ["long", mebibytes] => long::run(number(mebibytes)),
+        ["routines"] => {
+            ROUTINES
+                .iter()
+                .for_each(|routine| println!("matrix_{}", routine.name));
+            true
+        }
         [] => compare(COUNT, 0),
         [count] => compare(number(count), 0),
         [count, seed] => compare(number(count), number(seed)),
-        _ => panic!("compare [COUNT] [SEED] | compare long [MIB]"),
+        _ => panic!("compare [COUNT] [SEED] | compare long [MIB] | compare routines"),
     };
     ExitCode::from(u8::from(!held))
 }
@@ -42,6 +49,7 @@ fn number<T: std::str::FromStr>(word: &str) -> T {
 }
 
 fn compare(count: usize, first_seed: u64) -> bool {
+    assert!(count > 0, "at least 1 input");
     println!("{count} inputs for each routine, seeds from {first_seed} on");
     ROUTINES
         .iter()
@@ -61,13 +69,13 @@ fn compare_routine(routine: &Routine, count: usize, first_seed: u64) -> bool {
             Source::Any(make) => make(&mut random),
             Source::Every(_, make) => make(&mut random, index),
         };
-        let Some(value) = compare_call(routine, &call) else {
+        let Some(first) = compare_call(routine, &call) else {
             println!("  seed {seed}, index {index}");
             return false;
         };
-        *returned.entry(value).or_default() += 1;
+        *returned.entry(first).or_default() += 1;
     }
-    print!("{}: {count} inputs the same; returned", routine.name);
+    print!("{routine}: {count} inputs the same; returned");
     match returned.len() {
         0..=16 => returned
             .iter()
@@ -78,17 +86,17 @@ fn compare_routine(routine: &Routine, count: usize, first_seed: u64) -> bool {
     true
 }
 
-/// The value that both programs return, or none and a print where something differs.
+/// The first number that both programs return, or none and a print where something differs.
 fn compare_call(routine: &Routine, call: &Call) -> Option<usize> {
     let (mut library, mut expected) = (call.clone(), call.clone());
-    let value = (routine.library)(&mut library);
-    let expected_value = routine.expect(&mut expected);
-    if value == expected_value && library == expected {
-        return Some(value);
+    let returned = (routine.library)(&mut library);
+    let expected_return = (routine.expected)(&mut expected);
+    if returned == expected_return && library == expected {
+        return Some(returned.first());
     }
-    println!("{}: the programs differ", routine.name);
+    println!("{routine}: the programs differ");
     println!("  given\n{call}");
-    println!("  the library returned {value} and left\n{library}");
-    println!("  the second program returned {expected_value} and left\n{expected}");
+    println!("  the library returned {returned:?} and left\n{library}");
+    println!("  the second program returned {expected_return:?} and left\n{expected}");
     None
 }
