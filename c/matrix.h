@@ -199,7 +199,7 @@ static inline matrix_report matrix_listed_report(const size_t *room, size_t inde
     matrix_report report;
     report.start = numbers[0];
     report.end = numbers[1];
-    report.outcome.answer = (uint8_t)numbers[2];
+    report.outcome.answer = numbers[2] & 0xFF;
     report.outcome.detail = numbers[3];
     return report;
 }

@@ -192,7 +192,6 @@ fn measured(input: &[u8], short: &[u8], through: Through, rounds: usize) -> [f64
 
 /// Compares and times all kinds of input at this many MiB; whether all held.
 pub fn run(mebibytes: usize) -> bool {
-    assert!(mebibytes > 0, "at least 1 MiB");
     let size = mebibytes << 20;
     let rounds = if mebibytes < 16 { 15 } else { 5 };
     println!("inputs of {mebibytes} MiB, seed {SEED}, {}", stack_limit());

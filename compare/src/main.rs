@@ -14,7 +14,7 @@ mod routines;
 
 use std::collections::BTreeMap;
 use std::env;
-use std::process::ExitCode;
+use std::process::{self, ExitCode};
 
 use lent::Call;
 use reference::streams::Random;
@@ -28,7 +28,7 @@ fn main() -> ExitCode {
     let words: Vec<&str> = words.iter().map(String::as_str).collect();
     let held = match words[..] {
         ["long"] => long::run(64),
-        ["long", mebibytes] => long::run(number(mebibytes)),
+        ["long", mebibytes] => long::run(some(mebibytes)),
         ["routines"] => {
             ROUTINES
                 .iter()
@@ -36,20 +36,32 @@ fn main() -> ExitCode {
             true
         }
         [] => compare(COUNT, 0),
-        [count] => compare(number(count), 0),
-        [count, seed] => compare(number(count), number(seed)),
-        _ => panic!("compare [COUNT] [SEED] | compare long [MIB] | compare routines"),
+        [count] => compare(some(count), 0),
+        [count, seed] => compare(some(count), number(seed)),
+        _ => stop("compare [COUNT] [SEED] | compare long [MIB] | compare routines"),
     };
     ExitCode::from(u8::from(!held))
 }
 
 fn number<T: std::str::FromStr>(word: &str) -> T {
     let number = word.parse().ok();
-    number.unwrap_or_else(|| panic!("not a number: {word}"))
+    number.unwrap_or_else(|| stop(&format!("not a number: {word}")))
+}
+
+/// How many, or how much, to compare.
+fn some(word: &str) -> usize {
+    match number(word) {
+        0 => stop("nothing to compare: at least 1"),
+        some => some,
+    }
+}
+
+fn stop(why: &str) -> ! {
+    eprintln!("{why}");
+    process::exit(2)
 }
 
 fn compare(count: usize, first_seed: u64) -> bool {
-    assert!(count > 0, "at least 1 input");
     println!("{count} inputs for each routine, seeds from {first_seed} on");
     ROUTINES
         .iter()
