@@ -210,6 +210,9 @@ impl fmt::Display for Error {
             Self::NotAllowed(what) => what.fmt(f),
             Self::WideData { index } => write!(f, "data byte {index} is above 15"),
             Self::WrongSum => f.write_str("the checksum does not fit the data"),
+            Self::OutOfRange { place } if *place >= Patch::LENGTH => {
+                write!(f, "byte {place} of the patch is out of range")
+            }
             Self::OutOfRange { place } => {
                 let (what, range) = (patch::field_at(*place), patch::range_at(*place));
                 let (least, greatest) = range.into_inner();

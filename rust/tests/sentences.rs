@@ -90,8 +90,10 @@ fn of_every_byte_of_a_patch() {
     for place in 0..Patch::LENGTH {
         let error = refused(place).unwrap_err();
         assert_eq!(error, Error::OutOfRange { place });
-        assert!(!error.to_string().is_empty());
+        assert!(error.to_string().contains(" is out of range: "));
     }
+    let outside = Error::OutOfRange { place: 134 };
+    assert_eq!(outside.to_string(), "byte 134 of the patch is out of range");
 }
 
 /// A message with this behind F0H 10H 06H.
