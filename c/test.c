@@ -217,6 +217,8 @@ static void test_writing(void)
     HOLDS(gave(matrix_write_patch(100, p, sizeof p, out, 275), MATRIX_NOT_ALLOWED, 0));
     HOLDS(all_are(out, 0, sizeof out, FILL_BYTE));
     HOLDS(done(matrix_write_patch(0, p, sizeof p, out, 275), 275));
+    HOLDS(all_are(out, 275, sizeof out, FILL_BYTE));
+    HOLDS(done(matrix_write_patch(0, p, sizeof p, out, sizeof out), 275));
     HOLDS(memcmp(out, head, sizeof head) == 0 && all_are(out, 5, 157, 0) && out[157] == 1);
     HOLDS(all_are(out, 158, 273, 0) && out[273] == 0x01 && out[274] == 0xF7);
     HOLDS(all_are(out, 275, sizeof out, FILL_BYTE));
