@@ -8,10 +8,10 @@ use lib.Dec.{ltb}
 use lib.ListN.{length, drop}
 use borrow.Author.Tests.{lt-ltb, le-ltb, ltb-false}
 use Rattle.answers.specs.declared.Outcome.{Outcome}
-use Rattle.answers.specs.Table.{Row, row, Verdict, done, refused, first, answerOf}
-use Rattle.answers.specs.Effect.{outcome, tested, changed, written, Gives}
+use Rattle.answers.specs.Table.{Row, row, Verdict, done, refused, first, outcome, answerOf, Silent}
+use Rattle.answers.specs.Effect.{tested, changed, written, Gives}
 use Rattle.answers.proofs.Lists.{all-append}
-use Rattle.answers.proofs.Rows.{Silent, Refusals, numberOf, first-append, first-passed, passed-over, silent-parts, zero-silent, answered-silent, row-silent, stopped, first-stopped}
+use Rattle.answers.proofs.Rows.{Refusals, numberOf, first-append, first-passed, passed-over, silent-parts, zero-silent, answered-silent, row-silent, stopped, first-stopped}
 
 -- Rows that a test answered by 0 say nothing.
 pub passed : (rows : List Row) (r : Outcome) → Refusals rows → r ≡ tested rows → r .answer ≡ 0 → Silent rows
@@ -21,12 +21,12 @@ passed rows r a e z = answered-silent rows a (sym (ap (λ (o : Outcome). o .answ
 module _ (detail : ℕ) (new old : List ℕ) where
   changed-answer : (v : Verdict) → changed detail new old v .result .answer ≡ answerOf v
   changed-answer (done o b p) = refl
-  changed-answer (refused n d) = refl
+  changed-answer (refused r) = refl
 
   -- Answered otherwise than 0, it keeps every byte.
   pub changed-kept : (v : Verdict) → (changed detail new old v .result .answer ≡ 0 → ⊥) → changed detail new old v .lent ≡ old
   changed-kept (done o b p) n = absurd (n refl)
-  changed-kept (refused k d) n = refl
+  changed-kept (refused r) n = refl
 
   -- Answered 0, no row says anything.
   pub changed-silent : (rows : List Row) → Refusals rows → changed detail new old (first rows (done 0 [] [])) .result .answer ≡ 0 → Silent rows

@@ -19,6 +19,21 @@ to-end a s = take-all (length s - a) (drop a s) (simp length-drop (omega arith))
 pub put-next : (A o : List ℕ) (n x : ℕ) → length A ≡ n → n < length o → set (A ++ drop n o) n x ≡ (A ++ (x ∷ [])) ++ drop (n + 1) o
 put-next A o n x e h = rw (drop-cons o n 0 h, set-at A (getD o n 0) (drop (suc n) o) x n e) (simp (append-assoc, add-one))
 
+-- An output after stores of bytes one after the other from place n on.
+abbrev pub puts : ℕ → List ℕ → List ℕ → List ℕ
+puts n [] o = o
+puts n (b ∷ bs) o = puts (n + 1) bs (set o n b)
+
+-- A is written from the start of o; then bs is written behind it.
+pub puts-after : (A bs o xs : List ℕ) (n : ℕ) → length A ≡ n → n + length bs ≤ length o → xs ≡ A ++ drop n o
+    → puts n bs xs ≡ (A ++ bs) ++ drop (n + length bs) o
+puts-after A [] o xs n e h ex = let z : n + 0 ≡ n = omega arith in rw (ex, append-nil, z)
+puts-after A (b ∷ bs) o xs n e h ex =
+    let la : length (A ++ (b ∷ [])) ≡ n + 1 = omega (arith, length-append A (b ∷ [])) in
+    let ly : n + 1 + length bs ≡ n + length (b ∷ bs) = omega arith in
+    let here = ap (λ (l : List ℕ). set l n b) ex ∙ put-next A o n b e (omega arith) in
+    puts-after (A ++ (b ∷ [])) bs o (set xs n b) (n + 1) la (omega arith) here ∙ rw ly (simp append-assoc)
+
 -- A is written from the start of o; then Y is written into the part lent by `&mut o[a..]`, from A's end on, and the part comes back.
 pub then-part : (A Y o xs ys : List ℕ) (a n : ℕ) → length A ≡ a → length Y ≡ n → a + n ≤ length o → xs ≡ A ++ drop a o
     → ys ≡ Y ++ drop n (take (length xs - a) (drop a xs)) → putMid a (length xs - a) xs ys ≡ (A ++ Y) ++ drop (a + n) o

@@ -1,61 +1,33 @@
--- A table of refusals gives (n, d) exactly when some row says (n, d) and no row before it says anything.
+-- A table of refusals gives o exactly when some row says o and no row before it says anything.
 -- Each law goes by the rows in their order, and by what the first of them says.
 use mathlib.Core.Path.{_≡_, refl, ap, sym, _∙_, subst}
 use mathlib.Core.Bool.{Bool, true, false, not}
 use mathlib.Core.List.{List, [], _∷_, _++_, append-nil}
 use mathlib.Core.Logic.{_↔_}
-use mathlib.Core.Option.{Option, none, some, Option·some-injective}
+use mathlib.Core.Option.{Option, none, some}
 use Prim.Native.Nat.{ℕ}
 use native.Mathlib.Omega.{arith}
 use lib.Dec.{eqb}
 use borrow.Author.Tests.{eqb-true, not-false}
+use Rattle.answers.specs.declared.Outcome.{Outcome}
 use Rattle.answers.specs.Lists.{All}
-use Rattle.answers.specs.Table.{Row, row, rowAt, Verdict, done, refused, first, answerOf, says}
-use Rattle.answers.specs.Effect.{outcome, tested}
+use Rattle.answers.specs.Table.{Row, row, rowAt, Verdict, done, refused, unless, first, outcome, outcomeOf, answerOf, says, Silent, FirstSays}
+use Rattle.answers.specs.Effect.{tested}
 use Rattle.answers.proofs.Lists.{all-left, all-right}
-
--- No row says anything.
-abbrev pub Silent : List Row → Type 0
-Silent rows = All (λ (r : Row). says r ≡ none) rows
-
--- Some row says (n, d), and no row before it says anything.
-pub record FirstSays (rows : List Row) (n d : ℕ) : Type 0 where
-  pub before : List Row
-  pub here : Row
-  pub after : List Row
-  pub split : rows ≡ before ++ here ∷ after
-  pub silent : Silent before
-  pub said : says here ≡ some (n, d)
 
 -- Rows after rows are tested after them.
 pub first-append : (rows more : List Row) (v : Verdict) → first (rows ++ more) v ≡ first rows (first more v)
 first-append [] more v = refl
-first-append (row n true ∷ rows) more v = refl
-first-append (row n false ∷ rows) more v = first-append rows more v
-first-append (rowAt n (some d) ∷ rows) more v = refl
-first-append (rowAt n none ∷ rows) more v = first-append rows more v
+first-append (r ∷ rows) more v = ap (unless (says r)) (first-append rows more v)
 
-same-pair : (k i n d : ℕ) → _≡_ {A = Option (ℕ × ℕ)} (some (k, i)) (some (n, d)) → refused k i ≡ refused n d
-same-pair k i n d e =
-    let q = Option·some-injective (k, i) (n, d) e in
-    let q₀ = ap (λ (p : ℕ × ℕ). p .0) q in
-    let q₁ = ap (λ (p : ℕ × ℕ). p .1) q in
-    cc
-
--- A row that says (n, d) gives (n, d), whatever follows.
-pub first-said : (r : Row) (rows : List Row) (v : Verdict) (n d : ℕ) → says r ≡ some (n, d) → first (r ∷ rows) v ≡ refused n d
-first-said (row k true) rows v n d e = same-pair k 0 n d e
-first-said (row k false) rows v n d e = cc
-first-said (rowAt k (some i)) rows v n d e = same-pair k i n d e
-first-said (rowAt k none) rows v n d e = cc
+-- A row that says o gives o, whatever follows.
+pub first-said : (r : Row) (rows : List Row) (v : Verdict) (o : Outcome) → says r ≡ some o → first (r ∷ rows) v ≡ refused o
+first-said r rows v o e = rw e
 
 -- Rows that say nothing pass the verdict on.
 pub first-passed : (rows : List Row) (v : Verdict) → Silent rows → first rows v ≡ v
 first-passed [] v a = refl
-first-passed (row n true ∷ rows) v a = let e = a .0 in cc
-first-passed (row n false ∷ rows) v a = first-passed rows v (a .1)
-first-passed (rowAt n (some d) ∷ rows) v a = let e = a .0 in cc
-first-passed (rowAt n none ∷ rows) v a = first-passed rows v (a .1)
+first-passed (r ∷ rows) v a = rw (a .0) (first-passed rows v (a .1))
 
 -- They leave it to the rows that follow.
 pub passed-over : (rows more : List Row) (v : Verdict) → Silent rows → first (rows ++ more) v ≡ first more v
@@ -65,36 +37,48 @@ passed-over rows more v a = first-append rows more v ∙ first-passed rows (firs
 pub silent-parts : (rows more : List Row) → Silent (rows ++ more) → Silent rows × Silent more
 silent-parts rows more a = (all-left (λ r. says r ≡ none) rows more a, all-right (λ r. says r ≡ none) rows more a)
 
+-- What a row says is one of two things.
+pub data Heard (r : Row) : Type 0 where
+  nothing : says r ≡ none → Heard r
+  something : (o : Outcome) → says r ≡ some o → Heard r
+
+pub heard : (r : Row) → Heard r
+heard (row n true) = something (outcome n 0) refl
+heard (row n false) = nothing refl
+heard (rowAt n (some d)) = something (outcome n d) refl
+heard (rowAt n none) = nothing refl
+
 -- Where the table gives a `done`, no row says anything, and it is the one that stands behind the rows.
 pub done-passed : (rows : List Row) (v : Verdict) (o : ℕ) (b p : List ℕ) → first rows v ≡ done o b p → Silent rows × (v ≡ done o b p)
 done-passed [] v o b p e = (tt, e)
-done-passed (row n true ∷ rows) v o b p e = let z : _≡_ {A = ℕ} 0 1 = cc in absurd (omega arith)
-done-passed (row n false ∷ rows) v o b p e = let s = done-passed rows v o b p e in ((refl, s .0), s .1)
-done-passed (rowAt n (some d) ∷ rows) v o b p e = let z : _≡_ {A = ℕ} 0 1 = cc in absurd (omega arith)
-done-passed (rowAt n none ∷ rows) v o b p e = let s = done-passed rows v o b p e in ((refl, s .0), s .1)
+done-passed (r ∷ rows) v o b p e = go (heard r) (done-passed rows v o b p)
+  where
+    go : Heard r → (first rows v ≡ done o b p → Silent rows × (v ≡ done o b p)) → Silent (r ∷ rows) × (v ≡ done o b p)
+    go (nothing q) i = let s = i (rw q at e) in ((q, s .0), s .1)
+    go (something x q) i = let f = rw q at e in let z : _≡_ {A = ℕ} 0 1 = cc in absurd (omega arith)
 
 -- Where a row is the first that says anything, the table gives what it says.
-pub given-first : (rows : List Row) (v : Verdict) (n d : ℕ) → FirstSays rows n d → first rows v ≡ refused n d
-given-first rows v n d f =
+pub given-first : (rows : List Row) (v : Verdict) (o : Outcome) → FirstSays rows o → first rows v ≡ refused o
+given-first rows v o f =
     rw (f .split, first-append (f .before) (f .here ∷ f .after) v, first-passed (f .before) (first (f .here ∷ f .after) v) (f .silent))
-    (first-said (f .here) (f .after) v n d (f .said))
-
-later : (r : Row) (rows : List Row) (n d : ℕ) → says r ≡ none → FirstSays rows n d → FirstSays (r ∷ rows) n d
-later r rows n d e f =
-    let s = f .split in
-    record { before = r ∷ f .before; here = f .here; after = f .after; split = cc; silent = (e, f .silent); said = f .said }
+    (first-said (f .here) (f .after) v o (f .said))
 
 -- Where the table refuses, some row is the first that says so.
-pub first-given : (rows : List Row) (o : ℕ) (b p : List ℕ) (n d : ℕ) → first rows (done o b p) ≡ refused n d → FirstSays rows n d
-first-given [] o b p n d e = let z : _≡_ {A = ℕ} 0 1 = cc in absurd (omega arith)
-first-given (row k true ∷ rows) o b p n d e = record { before = []; here = row k true; after = rows; split = refl; silent = tt; said = cc }
-first-given (row k false ∷ rows) o b p n d e = later (row k false) rows n d refl (first-given rows o b p n d e)
-first-given (rowAt k (some i) ∷ rows) o b p n d e = record { before = []; here = rowAt k (some i); after = rows; split = refl; silent = tt; said = cc }
-first-given (rowAt k none ∷ rows) o b p n d e = later (rowAt k none) rows n d refl (first-given rows o b p n d e)
+pub first-given : (rows : List Row) (n : ℕ) (b p : List ℕ) (o : Outcome) → first rows (done n b p) ≡ refused o → FirstSays rows o
+first-given [] n b p o e = let z : _≡_ {A = ℕ} 0 1 = cc in absurd (omega arith)
+first-given (r ∷ rows) n b p o e = go (heard r) (first-given rows n b p o)
+  where
+    go : Heard r → (first rows (done n b p) ≡ refused o → FirstSays rows o) → FirstSays (r ∷ rows) o
+    go (nothing q) i =
+        let f = i (rw q at e) in
+        record { before = r ∷ f .before; here = f .here; after = f .after; split = ap (_∷_ r) (f .split); silent = (q, f .silent); said = f .said }
+    go (something x q) i =
+        let same : refused x ≡ refused o = rw q at e in
+        record { before = []; here = r; after = rows; split = refl; silent = tt; said = cc }
 
--- Refused by (n, d) exactly when a row says (n, d) and none before it says anything.
-pub refused-exactly : (rows : List Row) (o : ℕ) (b p : List ℕ) (n d : ℕ) → (first rows (done o b p) ≡ refused n d) ↔ FirstSays rows n d
-refused-exactly rows o b p n d = (first-given rows o b p n d, given-first rows (done o b p) n d)
+-- Refused by o exactly when a row says o and none before it says anything.
+pub refused-exactly : (rows : List Row) (n : ℕ) (b p : List ℕ) (o : Outcome) → (first rows (done n b p) ≡ refused o) ↔ FirstSays rows o
+refused-exactly rows n b p o = (first-given rows n b p o, given-first rows (done n b p) o)
 
 -- Done exactly when no row says anything.
 pub done-exactly : (rows : List Row) (o : ℕ) (b p : List ℕ) → (first rows (done o b p) ≡ done o b p) ↔ Silent rows
@@ -119,14 +103,25 @@ abbrev pub numberOf : Row → ℕ
 numberOf (row n h) = n
 numberOf (rowAt n o) = n
 
+-- It is the answer of what the row says.
+said-number : (r : Row) (o : Outcome) → says r ≡ some o → numberOf r ≡ o .answer
+said-number (row n true) o e = let same : outcome n 0 ≡ o = cc in ap (λ (x : Outcome). x .answer) same
+said-number (row n false) o e = let z : _≡_ {A = ℕ} 0 1 = cc in absurd (omega arith)
+said-number (rowAt n (some d)) o e = let same : outcome n d ≡ o = cc in ap (λ (x : Outcome). x .answer) same
+said-number (rowAt n none) o e = let z : _≡_ {A = ℕ} 0 1 = cc in absurd (omega arith)
+
 -- A refusal's number is that of one of the rows: what holds of every row's number holds of it.
-pub first-number : (P : ℕ → Type 0) (rows : List Row) (o : ℕ) (b p : List ℕ) (n d : ℕ) → All (λ (r : Row). P (numberOf r)) rows
-    → first rows (done o b p) ≡ refused n d → P n
-first-number P [] o b p n d a e = let z : _≡_ {A = ℕ} 0 1 = cc in absurd (omega arith)
-first-number P (row k true ∷ rows) o b p n d a e = let same : k ≡ n = cc in subst P same (a .0)
-first-number P (row k false ∷ rows) o b p n d a e = first-number P rows o b p n d (a .1) e
-first-number P (rowAt k (some i) ∷ rows) o b p n d a e = let same : k ≡ n = cc in subst P same (a .0)
-first-number P (rowAt k none ∷ rows) o b p n d a e = first-number P rows o b p n d (a .1) e
+pub first-number : (P : ℕ → Type 0) (rows : List Row) (n : ℕ) (b p : List ℕ) (o : Outcome) → All (λ (r : Row). P (numberOf r)) rows
+    → first rows (done n b p) ≡ refused o → P (o .answer)
+first-number P [] n b p o a e = let z : _≡_ {A = ℕ} 0 1 = cc in absurd (omega arith)
+first-number P (r ∷ rows) n b p o a e = go (heard r) (first-number P rows n b p o (a .1))
+  where
+    go : Heard r → (first rows (done n b p) ≡ refused o → P (o .answer)) → P (o .answer)
+    go (nothing q) i = i (rw q at e)
+    go (something x q) i =
+        let same : refused x ≡ refused o = rw q at e in
+        let said : says r ≡ some o = cc in
+        subst P (said-number r o said) (a .0)
 
 -- Every row is numbered as a refusal: 0 is not among them.
 abbrev pub Refusals : List Row → Type 0
@@ -135,37 +130,31 @@ Refusals rows = All (λ (r : Row). numberOf r ≡ 0 → ⊥) rows
 -- Rows that give answer 0, none of them numbered 0, say nothing.
 pub zero-silent : (rows : List Row) (v : Verdict) → Refusals rows → answerOf (first rows v) ≡ 0 → Silent rows
 zero-silent [] v a e = tt
-zero-silent (row n true ∷ rows) v a e = absurd (a .0 e)
-zero-silent (row n false ∷ rows) v a e = (refl, zero-silent rows v (a .1) e)
-zero-silent (rowAt n (some d) ∷ rows) v a e = absurd (a .0 e)
-zero-silent (rowAt n none ∷ rows) v a e = (refl, zero-silent rows v (a .1) e)
-
--- The answer of rows alone is that of what the first of them gives.
-tested-answer : (rows : List Row) → tested rows .answer ≡ answerOf (first rows (done 0 [] []))
-tested-answer [] = refl
-tested-answer (row n true ∷ rows) = refl
-tested-answer (row n false ∷ rows) = tested-answer rows
-tested-answer (rowAt n (some d) ∷ rows) = refl
-tested-answer (rowAt n none ∷ rows) = tested-answer rows
+zero-silent (r ∷ rows) v a e = go (heard r) (zero-silent rows v (a .1))
+  where
+    go : Heard r → (answerOf (first rows v) ≡ 0 → Silent rows) → Silent (r ∷ rows)
+    go (nothing q) i = (q, i (rw q at e))
+    go (something o q) i = let z : o .answer ≡ 0 = rw q at e in absurd (a .0 (said-number r o q ∙ z))
 
 -- So rows that are answered 0 say nothing, and those that say nothing are answered 0 with detail 0.
 pub answered-silent : (rows : List Row) → Refusals rows → tested rows .answer ≡ 0 → Silent rows
-answered-silent rows a e = zero-silent rows (done 0 [] []) a (sym (tested-answer rows) ∙ e)
+answered-silent rows a e = zero-silent rows (done 0 [] []) a e
 
 pub tested-passed : (rows : List Row) → Silent rows → tested rows ≡ outcome 0 0
 tested-passed rows a = rw (first-passed rows (done 0 [] []) a)
 
 -- Rows that refuse do so whatever rows follow.
-pub stopped : (rows more : List Row) (v : Verdict) → (tested rows .answer ≡ 0 → ⊥)
-    → first (rows ++ more) v ≡ refused (tested rows .answer) (tested rows .detail)
+pub stopped : (rows more : List Row) (v : Verdict) → (tested rows .answer ≡ 0 → ⊥) → first (rows ++ more) v ≡ refused (tested rows)
 stopped [] more v n = absurd (n refl)
-stopped (row k true ∷ rows) more v n = refl
-stopped (row k false ∷ rows) more v n = stopped rows more v n
-stopped (rowAt k (some d) ∷ rows) more v n = refl
-stopped (rowAt k none ∷ rows) more v n = stopped rows more v n
+stopped (r ∷ rows) more v n = go (heard r) (stopped rows more v)
+  where
+    go : Heard r → ((tested rows .answer ≡ 0 → ⊥) → first (rows ++ more) v ≡ refused (tested rows))
+        → first (r ∷ (rows ++ more)) v ≡ refused (tested (r ∷ rows))
+    go (nothing q) i = rw q (i (rw q at n))
+    go (something o q) i = rw q
 
 -- What rows come to by the answer they are given alone: what they refuse, or the verdict behind them.
-pub first-stopped : (rows : List Row) (v : Verdict) → (tested rows .answer ≡ 0 → ⊥) → first rows v ≡ refused (tested rows .answer) (tested rows .detail)
+pub first-stopped : (rows : List Row) (v : Verdict) → (tested rows .answer ≡ 0 → ⊥) → first rows v ≡ refused (tested rows)
 first-stopped rows v n = rw append-nil at (stopped rows [] v n)
 
 pub first-zero : (rows : List Row) (v : Verdict) → Refusals rows → tested rows .answer ≡ 0 → first rows v ≡ v

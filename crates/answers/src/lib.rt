@@ -1,7 +1,7 @@
 // The register's numbers, and the answer of a routine that has no place of its own.
 // Nothing stands below this crate.
 ghost use mathlib.Core.Path.{_≡_};
-ghost use Rattle.answers.specs.Effect.{outcome};
+ghost use Rattle.answers.specs.Table.{outcome};
 
 // Document 01, 'Numbers the register prints'.
 pub const DONE: u8 = 0;
@@ -35,6 +35,7 @@ pub const NO_ROOM: u8 = 13;
 pub const WRONG_AMOUNT: u8 = 14;
 
 // An answer and its detail.
+#[repr(C)]
 pub struct Outcome {
     pub answer: u8,
     pub detail: usize,

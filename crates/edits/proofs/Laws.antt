@@ -10,10 +10,11 @@ use lib.Dec.{eqb, ltb}
 use lib.ListN.{length, getD, set, length-set}
 use lib.Seq.{getD-set-same, getD-set-other}
 use borrow.Author.Tests.{lt-ltb, le-ltb, le-leb, ltb-true, ltb-false, eqb-true, eqb-false, ne-eqb}
-use Rattle.answers.specs.Table.{Row, done, refused, first}
-use Rattle.answers.specs.Effect.{Effect, outcome, changed, tested}
+use Rattle.answers.specs.declared.Outcome.{Outcome}
+use Rattle.answers.specs.Table.{Row, done, refused, first, outcome, Silent}
+use Rattle.answers.specs.Effect.{Effect, changed, tested}
 use Rattle.answers.proofs.Lists.{all-append}
-use Rattle.answers.proofs.Rows.{Silent, Refusals, numberOf, first-passed, done-passed, silent-parts}
+use Rattle.answers.proofs.Rows.{Refusals, numberOf, first-passed, done-passed, silent-parts}
 use Rattle.answers.proofs.Effects.{changed-kept, changed-silent}
 use Rattle.patch.specs.Fields.{between, inRange, placeOf}
 use Rattle.patch.specs.Patch.{outFrom, firstOut, halfUsed, patchRows}
@@ -126,12 +127,12 @@ edit-at n v k p q e =
     let sits = found-place n k q in
     let l = patch-length p quiet in
     let new = edit-stored n v k p q e in
-    let to = ap (λ (f : Effect). f .lent) new in
+    let to = ap (λ (f : Effect Outcome). f .lent) new in
     record {
       place = k;
       found = q;
       inside = omega arith;
-      answered = ap (λ (f : Effect). f .result) new;
+      answered = ap (λ (f : Effect Outcome). f .result) new;
       stored = to;
       own = ap (λ (r : List ℕ). getD r k 0) to ∙ getD-set-same p k (storedFor n v) 0 (omega arith);
       others = λ i h. ap (λ (r : List ℕ). getD r i 0) to ∙ getD-set-other p k i (storedFor n v) 0 h;
@@ -236,11 +237,11 @@ bus-own-field b s a d p e =
     let l = patch-length p quiet in
     let h = bus-number b s a d edit in
     let new = bus-stored b s a d p e in
-    let to = ap (λ (f : Effect). f .lent) new in
+    let to = ap (λ (f : Effect Outcome). f .lent) new in
     record {
       bus = h;
       seven-bits = bus-amount b s a d edit;
-      answered = ap (λ (f : Effect). f .result) new;
+      answered = ap (λ (f : Effect Outcome). f .result) new;
       stored = to;
       source = ap (λ (r : List ℕ). getD r (104 + 3 * b) 0) to ∙ with-source b s a d p h l;
       amount = ap (λ (r : List ℕ). getD r (105 + 3 * b) 0) to ∙ with-amount b s a d p h l;

@@ -8,9 +8,9 @@ use native.Mathlib.Omega.{arith}
 use lib.Dec.{ltb}
 use lib.ListN.{set}
 use borrow.Author.Tests.{ltb-false}
-use Rattle.answers.specs.Table.{Row, row, rowAt, done, first}
-use Rattle.answers.specs.Effect.{outcome, changed}
-use Rattle.answers.proofs.Rows.{Silent, Refusals, row-silent, row-at-silent}
+use Rattle.answers.specs.Table.{Row, row, rowAt, done, first, outcome, Silent}
+use Rattle.answers.specs.Effect.{changed}
+use Rattle.answers.proofs.Rows.{Refusals, row-silent, row-at-silent}
 use Rattle.patch.specs.Fields.{inRange, placeOf}
 use Rattle.patch.specs.Patch.{outFrom, halfUsed, patchRows}
 use Rattle.edits.specs.Edits.{extended, storedFor, outAt, valueRows, editRows, busRows, withByte, applying}

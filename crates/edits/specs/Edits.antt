@@ -5,6 +5,7 @@ use mathlib.Core.Option.{Option, none, some}
 use Prim.Native.Nat.{ℕ, _+_, _*_}
 use lib.Dec.{eqb, ltb}
 use lib.ListN.{set}
+use Rattle.answers.specs.declared.Outcome.{Outcome}
 use Rattle.answers.specs.Table.{Row, row, rowAt, done, first}
 use Rattle.answers.specs.Effect.{Effect, changed}
 use Rattle.patch.specs.Fields.{between, inRange, placeOf}
@@ -62,13 +63,13 @@ withBus bus source amount destination p =
     set (set (set p (104 + 3 * bus) source) (105 + 3 * bus) (extended amount)) (106 + 3 * bus) destination
 
 -- Applying a 06H edit to a lent patch: the edit's own refusals, then the patch's.
-unfoldable pub applying : ℕ → ℕ → List ℕ → Effect
+unfoldable pub applying : ℕ → ℕ → List ℕ → Effect Outcome
 applying parameter v p =
     changed 0 (withByte (placeOf parameter) (storedFor parameter v) p) p
     (first (editRows parameter v ++ patchRows p) (done 0 [] []))
 
 -- Applying a 0BH edit to a lent patch.
-unfoldable pub applyingBus : ℕ → ℕ → ℕ → ℕ → List ℕ → Effect
+unfoldable pub applyingBus : ℕ → ℕ → ℕ → ℕ → List ℕ → Effect Outcome
 applyingBus bus source amount destination p =
     changed 0 (withBus bus source amount destination p) p
     (first (busRows bus source amount destination ++ patchRows p) (done 0 [] []))

@@ -11,7 +11,7 @@ use lib.Dec.{eqb}
 use lib.ListN.{length, drop, length-drop}
 use lib.Seq.{drop-drop}
 use borrow.Author.Tests.{eq-eqb, ne-eqb, eqb-true}
-use Rattle.answers.specs.Table.{Verdict, refused}
+use Rattle.answers.specs.Table.{Verdict, refused, outcome}
 use Rattle.frames.specs.Bytes.{body, withoutRealTime, framed}
 use Rattle.frames.specs.Extent.{ahead, startFrom, endingOf}
 use Rattle.frames.specs.Stream.{report, messageAt, firstFrom, walk}
@@ -55,11 +55,11 @@ module _ (judge : List ℕ → Verdict) where
   -- A message that is cut or interrupted, and one that is complete.
   module _ (f : ℕ) (t : List ℕ) where
     pub message-refused : (endingOf (drop (length (body t)) t) ≡ 0 → ⊥)
-        → messageAt judge f t ≡ report f (suc f + length (body t)) (refused (endingOf (drop (length (body t)) t)) 0)
+        → messageAt judge f t ≡ report f (suc f + length (body t)) (refused (outcome (endingOf (drop (length (body t)) t)) 0))
     message-refused n = by-end (drop (length (body t)) t) refl n
       where
         by-end : (r : List ℕ) → drop (length (body t)) t ≡ r → (endingOf r ≡ 0 → ⊥)
-            → messageAt judge f t ≡ report f (suc f + length (body t)) (refused (endingOf r) 0)
+            → messageAt judge f t ≡ report f (suc f + length (body t)) (refused (outcome (endingOf r) 0))
         by-end [] e k = cut-message judge f t e
         by-end (x ∷ r) e k =
             let other : x ≡ 0xF7 → ⊥ = λ q. k (rw (eq-eqb x 0xF7 q)) in

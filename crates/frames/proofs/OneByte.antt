@@ -6,7 +6,7 @@ use Prim.Native.Nat.{ℕ, suc, _+_, _≤_, _<_}
 use native.Mathlib.Omega.{arith}
 use lib.ListN.{length, length-append}
 use Rattle.answers.specs.Lists.{All}
-use Rattle.answers.specs.Table.{Verdict, refused}
+use Rattle.answers.specs.Table.{Verdict, refused, outcome}
 use Rattle.answers.proofs.Lists.{all-append}
 use Rattle.frames.specs.Bytes.{Kind, dataByte, exclusive, endOfExclusive, otherStatus, realTime, kindOf, framed}
 use Rattle.frames.specs.Stream.{Report, report}
@@ -42,7 +42,7 @@ module _ (judge : List ℕ → Verdict) where
     }
 
     -- One byte y of any kind between data bytes u and v.
-    module _ (f : ℕ) (u : List ℕ) (y : ℕ) (v z : List ℕ) (au : All DataByte u) (av : All DataByte v) (broken : P (refused 3 0))
+    module _ (f : ℕ) (u : List ℕ) (y : ℕ) (v z : List ℕ) (au : All DataByte u) (av : All DataByte v) (broken : P (refused (outcome 3 0)))
         (with-byte : kindOf y ≡ dataByte → P (judge (framed (u ++ y ∷ v)))) (without : kindOf y ≡ realTime → P (judge (framed (u ++ v))))
         (front : P (judge (framed u))) (back : P (judge (framed v))) where
       cut : scan judge (suc f) (inside f []) ((u ++ y ∷ v) ++ 0xF7 ∷ z) ≡ scan judge (suc f + length u) (inside f u) (y ∷ (v ++ 0xF7 ∷ z))
@@ -54,7 +54,7 @@ module _ (judge : List ℕ → Verdict) where
       by-kind : (k : Kind) → kindOf y ≡ k → Only f (u ++ y ∷ v) z
       by-kind dataByte e = closed f (u ++ y ∷ v) z (all-append DataByte u (y ∷ v) au (e, av)) (with-byte e)
       by-kind exclusive e = record {
-        found = report f (suc f + length u) (refused 3 0) ∷ report (suc f + length u) (suc (suc f + length (u ++ y ∷ v))) (judge (framed v)) ∷ [];
+        found = report f (suc f + length u) (refused (outcome 3 0)) ∷ report (suc f + length u) (suc (suc f + length (u ++ y ∷ v))) (judge (framed v)) ∷ [];
         each = ((broken, omega arith, omega (arith, last)), ((back, omega arith, omega (arith, last)), tt));
         whole = cut ∙ rw (e, last, scan-close v av (suc (suc f + length u)) (suc f + length u) [] z);
       }
@@ -64,7 +64,7 @@ module _ (judge : List ℕ → Verdict) where
         whole = cut ∙ rw (e, last, skip-close v av (suc (suc f + length u)) z);
       }
       by-kind otherStatus e = record {
-        found = report f (suc f + length u) (refused 3 0) ∷ [];
+        found = report f (suc f + length u) (refused (outcome 3 0)) ∷ [];
         each = ((broken, omega arith, omega (arith, last)), tt);
         whole = cut ∙ rw (e, last, skip-close v av (suc (suc f + length u)) z);
       }

@@ -12,11 +12,11 @@ use lib.ListN.{length, drop, length-drop, drop-of-length-le}
 use lib.Seq.{append-snoc, drop-drop}
 use borrow.Author.Tests.{eq-eqb, ne-eqb}
 use Rattle.answers.specs.Lists.{All}
-use Rattle.answers.specs.Table.{Verdict, refused}
+use Rattle.answers.specs.Table.{Verdict, refused, outcome}
 use Rattle.frames.specs.Bytes.{Kind, dataByte, exclusive, endOfExclusive, otherStatus, realTime, kindOf, ends, body, withoutRealTime, framed}
 use Rattle.frames.specs.Stream.{Report, report, messageAt, firstFrom, walk, reportsFrom, reports}
 use Rattle.frames.specs.Scan.{outside, inside, scan}
-use Rattle.frames.specs.Order.{InOrder}
+use Rattle.frames.specs.Order.{InOrder, ReportsOf}
 use Rattle.frames.proofs.Bytes.{lies-in, kind-is, Ending, closing, starting, breaking, ending, behind-body, body-within}
 use Rattle.frames.proofs.Scan.{further, scan-outside}
 
@@ -46,7 +46,7 @@ module _ (judge : List ℕ → Verdict) where
     stop = suc f + length (body t)
 
     -- With nothing behind its body the message is cut.
-    pub cut-message : drop (length (body t)) t ≡ [] → messageAt judge f t ≡ report f stop (refused 2 0)
+    pub cut-message : drop (length (body t)) t ≡ [] → messageAt judge f t ≡ report f stop (refused (outcome 2 0))
     unfolding messageAt
     cut-message e = rw e
 
@@ -58,7 +58,7 @@ module _ (judge : List ℕ → Verdict) where
 
     -- With another byte behind its body it is interrupted.
     pub interrupted-message : (x : ℕ) (r : List ℕ) → drop (length (body t)) t ≡ x ∷ r → (x ≡ 0xF7 → ⊥)
-        → messageAt judge f t ≡ report f stop (refused 3 0)
+        → messageAt judge f t ≡ report f stop (refused (outcome 3 0))
     unfolding messageAt
     interrupted-message x r e n = rw (e, ne-eqb x 0xF7 n)
 
@@ -241,3 +241,7 @@ module _ (judge : List ℕ → Verdict) where
   -- Each report of a stream ends past its start, starts no earlier than the one before it ends, and ends within the stream.
   pub reports-order : (s : List ℕ) → InOrder 0 (length s) (reports judge s)
   reports-order s = rw (reports-scan s, ← (zero-add (length s))) (scan-order s 0)
+
+  -- What holds of the reports of every stream.
+  pub reports-of : (s : List ℕ) → ReportsOf judge s
+  reports-of s = record { by-states = reports-scan s; in-order = reports-order s; found-again = reread s }

@@ -1,7 +1,7 @@
 -- The walk told as two states, outside a message and inside one, that hand the rest of the input to each other.
 use mathlib.Core.List.{List, [], _∷_, _++_}
 use Prim.Native.Nat.{ℕ, suc}
-use Rattle.answers.specs.Table.{Verdict, refused}
+use Rattle.answers.specs.Table.{Verdict, refused, outcome}
 use Rattle.frames.specs.Bytes.{Kind, dataByte, exclusive, endOfExclusive, otherStatus, realTime, kindOf, framed}
 use Rattle.frames.specs.Stream.{Report, report}
 
@@ -26,16 +26,16 @@ next realTime b p (inside f c) = inside f c
 -- Where the input ends inside a message, it is cut.
 abbrev pub finish : ℕ → State → List Report
 finish p outside = []
-finish p (inside f c) = report f p (refused 2 0) ∷ []
+finish p (inside f c) = report f p (refused (outcome 2 0)) ∷ []
 
 module _ (judge : List ℕ → Verdict) where
   -- The report that a byte of kind k at place p completes.
   abbrev pub emit : Kind → ℕ → State → List Report
   emit k p outside = []
   emit dataByte p (inside f c) = []
-  emit exclusive p (inside f c) = report f p (refused 3 0) ∷ []
+  emit exclusive p (inside f c) = report f p (refused (outcome 3 0)) ∷ []
   emit endOfExclusive p (inside f c) = report f (suc p) (judge (framed c)) ∷ []
-  emit otherStatus p (inside f c) = report f p (refused 3 0) ∷ []
+  emit otherStatus p (inside f c) = report f p (refused (outcome 3 0)) ∷ []
   emit realTime p (inside f c) = []
 
   -- The reports of the bytes s, the first of which stands at place p, from a state.

@@ -6,7 +6,9 @@ use mathlib.Core.Option.{Option, none, some}
 use Prim.Native.Nat.{ℕ, zero, suc, _+_}
 use lib.Dec.{eqb, leb}
 use lib.ListN.{length, drop}
-use Rattle.answers.specs.Table.{Verdict, done, refused}
+use Rattle.answers.specs.declared.Outcome.{Outcome}
+use Rattle.answers.specs.Table.{Verdict, done, refused, outcome}
+use Rattle.answers.specs.Effect.{Effect}
 use Rattle.frames.specs.Bytes.{body, withoutRealTime, framed}
 
 -- A report: where a message starts and ends, and what it comes to.
@@ -18,29 +20,30 @@ pub record Report : Type 0 where
 abbrev pub report : ℕ → ℕ → Verdict → Report
 report f e v = record { start = f; end = e; verdict = v }
 
--- What reading a record gives: places, answer, detail, the bytes that come with the answer, and the lent buffer afterwards.
+-- What reading a record tells: where the message starts and ends, its outcome, and the bytes that come with the answer.
 pub record Reading : Type 0 where
   pub start : ℕ
   pub end : ℕ
-  pub answer : ℕ
-  pub detail : ℕ
+  pub outcome : Outcome
   pub bytes : List ℕ
-  pub lent : List ℕ
+
+abbrev pub reading : ℕ → ℕ → Outcome → List ℕ → Reading
+reading f e o b = record { start = f; end = e; outcome = o; bytes = b }
 
 -- A dump's packed bytes go to the buffer's start, if they fit (else 13); every other byte is kept.
-abbrev pub readInto : ℕ → ℕ → Verdict → List ℕ → Reading
+abbrev pub readInto : ℕ → ℕ → Verdict → List ℕ → Effect Reading
 readInto f e (done op bytes packed) lent =
     cond (leb (length packed) (length lent))
-    (record { start = f; end = e; answer = 0; detail = op; bytes = bytes; lent = packed ++ drop (length packed) lent })
-    (record { start = f; end = e; answer = 13; detail = 0; bytes = []; lent = lent })
-readInto f e (refused n d) lent = record { start = f; end = e; answer = n; detail = d; bytes = []; lent = lent }
+    (record { result = reading f e (outcome 0 op) bytes; lent = packed ++ drop (length packed) lent })
+    (record { result = reading f e (outcome 13 0) []; lent = lent })
+readInto f e (refused o) lent = record { result = reading f e o []; lent = lent }
 
 module _ (judge : List ℕ → Verdict) where
   -- The message from place f to e, with the bytes b between F0H and what follows: F7H closes it, another byte interrupts it, none cuts it.
   abbrev pub closedBy : ℕ → ℕ → List ℕ → List ℕ → Report
-  closedBy f e b [] = report f e (refused 2 0)
+  closedBy f e b [] = report f e (refused (outcome 2 0))
   closedBy f e b (x ∷ r) =
-      cond (eqb x 0xF7) (report f (suc e) (judge (framed (withoutRealTime b)))) (report f e (refused 3 0))
+      cond (eqb x 0xF7) (report f (suc e) (judge (framed (withoutRealTime b)))) (report f e (refused (outcome 3 0)))
 
   -- The message whose F0H stands at place f, before the bytes t.
   unfoldable pub messageAt : ℕ → List ℕ → Report
@@ -64,10 +67,11 @@ module _ (judge : List ℕ → Verdict) where
   unfoldable pub reports : List ℕ → List Report
   reports s = reportsFrom (length s) s 0
 
-  abbrev pub readReport : ℕ → Option Report → List ℕ → Reading
-  readReport n none lent = record { start = n; end = n; answer = 1; detail = 0; bytes = []; lent = lent }
+  -- Where no message is found, start and end are the input's length.
+  abbrev pub readReport : ℕ → Option Report → List ℕ → Effect Reading
+  readReport n none lent = record { result = reading n n (outcome 1 0) []; lent = lent }
   readReport n (some r) lent = readInto (r .start) (r .end) (r .verdict) lent
 
   -- Reading a record from a place into a lent buffer.
-  unfoldable pub read : List ℕ → ℕ → List ℕ → Reading
+  unfoldable pub read : List ℕ → ℕ → List ℕ → Effect Reading
   read s p lent = readReport (length s) (walk s p) lent

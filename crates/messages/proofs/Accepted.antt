@@ -6,13 +6,13 @@ use mathlib.Core.Option.{none}
 use Prim.Native.Nat.{ℕ, _+_, _*_, _<_}
 use native.Mathlib.Omega.{arith}
 use lib.ListN.{length, take, drop}
-use Rattle.answers.specs.Table.{done, answerOf}
-use Rattle.answers.proofs.Rows.{Silent, first-passed, zero-silent, row-silent, row-at-silent, row-equal}
+use Rattle.answers.specs.Table.{done, answerOf, Silent}
+use Rattle.answers.proofs.Rows.{first-passed, zero-silent, row-silent, row-at-silent, row-equal}
 use Rattle.frames.specs.Bytes.{framed}
 use Rattle.nibbles.specs.Nibbles.{pack, firstWide, wideFrom}
 use Rattle.messages.specs.Kinds.{Kind, ofDump, ofShort, unknown, kindOf, Filed, sizeOf, packedSize, lengthOf, isUnknown, countOf}
 use Rattle.messages.specs.Judge.{byteAt, dataOf, packedOf, dataRows, numberIn, bytesFrom, kindRows, messageRows, recordOf, judge}
-use Rattle.messages.proofs.Filed.{found-filed}
+use Rattle.messages.proofs.Filed.{found-filed, filed-sized}
 use Rattle.messages.proofs.Numbers.{message-refusals}
 use Rattle.messages.proofs.Content.{framed-length, framed-data}
 
@@ -33,12 +33,14 @@ accepted c z =
     let k = kindOf (byteAt m 3) in
     let s = zero-silent (messageRows m) (recordOf k m) (message-refusals m) z in
     let known = row-silent 6 (isUnknown k) (s .1 .1 .0) in
-    by-kind k known (found-filed (byteAt m 3) known) (row-equal 7 (length m) (lengthOf k) (s .1 .1 .1 .0)) (s .1 .1 .1 .1) (first-passed (messageRows m) (recordOf k m) s)
+    let long = row-equal 7 (length m) (lengthOf k) (s .1 .1 .1 .0) in
+    by-kind k known (found-filed (byteAt m 3) known) long (s .1 .1 .1 .1) (first-passed (messageRows m) (recordOf k m) s)
   where
-    by-kind : (k : Kind) → isUnknown k ≡ false → Filed k → length (framed c) ≡ lengthOf k → Silent (kindRows k (framed c)) → judge (framed c) ≡ recordOf k (framed c) → Accepted c
+    by-kind : (k : Kind) → isUnknown k ≡ false → Filed k → length (framed c) ≡ lengthOf k → Silent (kindRows k (framed c))
+        → judge (framed c) ≡ recordOf k (framed c) → Accepted c
     by-kind (ofDump k) u f l s v =
         let size = sizeOf (k .packed) in
-        let long : length c ≡ 5 + 2 * size = omega (arith, framed-length c) in
+        let long : length c ≡ 5 + 2 * size = omega (arith, framed-length c, filed-sized (ofDump k) f .0) in
         record {
           opcode = k .opcode;
           bytes = numberIn (k .behind) (byteAt (framed c) 4);
@@ -50,7 +52,7 @@ accepted c z =
         }
     by-kind (ofShort k) u f l s v = record {
       opcode = k .opcode;
-      bytes = bytesFrom (countOf (k .change)) 4 (framed c);
+      bytes = bytesFrom (countOf (k .operands)) 4 (framed c);
       size = 0;
       sized = ap packedSize f;
       verdict = v;

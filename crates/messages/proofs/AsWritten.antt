@@ -8,34 +8,38 @@ use native.Mathlib.Omega.{arith}
 use lib.Dec.{eqb}
 use lib.ListN.{length, take, getD, length-append, drop-of-length-le}
 use lib.Seq.{split-at, length-take-le}
-use borrow.Author.Tests.{eqb-true}
-use Rattle.answers.specs.Table.{Verdict, done, refused, answerOf}
-use Rattle.answers.proofs.Rows.{Silent, done-passed, row-silent, row-equal, row-at-silent}
+use borrow.Author.Tests.{eq-eqb}
+use Rattle.answers.specs.Table.{Verdict, done, refused, outcome, answerOf, Silent}
+use Rattle.answers.proofs.Rows.{done-passed, row-silent, row-equal, row-at-silent}
 use Rattle.frames.specs.Bytes.{framed}
 use Rattle.nibbles.specs.Nibbles.{nibbles, pack, sum, firstWide}
 use Rattle.nibbles.proofs.Laws.{length-pack, nibbles-pack, wide-none}
-use Rattle.edits.specs.Edits.{editRows, busRows}
-use Rattle.messages.specs.Kinds.{Dump, Short, Kind, ofDump, ofShort, unknown, opcodeOf, kindOf, Filed, lengthOf, isUnknown, rowsOf, countOf}
-use Rattle.messages.specs.Judge.{misnumbered, packedRows, dumpRows, messageRows, kindRows, recordOf, judge}
-use Rattle.messages.specs.Layout.{messageOf, dump, shortMessage}
-use Rattle.messages.proofs.Filed.{found-opcode, found-filed}
+use Rattle.messages.specs.Kinds.{Dump, Short, Kind, ofDump, ofShort, unknown, opcodeOf, kindOf, Filed, lengthOf, isUnknown, countOf}
+use Rattle.messages.specs.Judge.{numberIn, dumpRows, messageRows, kindRows, recordOf, judge}
+use Rattle.messages.specs.Layout.{messageOf, dump, message, recordFor, Given, givenRows}
+use Rattle.messages.proofs.Filed.{found-opcode, found-filed, filed-sized}
+use Rattle.messages.proofs.Content.{framed-bytes}
 use Rattle.messages.proofs.Numbers.{done-head}
 use Rattle.messages.proofs.DumpLaws.{size, dumpRecord, rows-passed, dump-tested}
-use Rattle.messages.proofs.Written.{short-bytes}
+use Rattle.messages.proofs.Written.{number-back, numbered}
 
--- A dump or a short message as our writers write it, with the verdict of its record, and its writer's rows say nothing.
-pub data Accepted (m : List ℕ) (v : Verdict) : Type 0 where
-  aDump : (k : Dump) (n : ℕ) (p : List ℕ) → Filed (ofDump k) → m ≡ dump (k .opcode) n p → v ≡ dumpRecord k n p
-      → misnumbered (k .behind) n ≡ false → length p ≡ size k → Silent (packedRows (k .packed) p) → Accepted m v
-  aShort : (k : Short) (b : List ℕ) → Filed (ofShort k) → m ≡ shortMessage k b → v ≡ done (k .opcode) b []
-      → length b ≡ countOf (k .change) → Silent (rowsOf (k .change) b) → Accepted m v
+-- A message as our writers write it from what they are given, with the verdict of its record, and its writer's rows say nothing.
+pub record Accepted (m : List ℕ) (v : Verdict) : Type 0 where
+  pub kind : Kind
+  pub bytes : List ℕ
+  pub packed : List ℕ
+  pub filed : Filed kind
+  pub given : Given kind bytes packed
+  pub its-message : m ≡ message kind bytes packed
+  pub its-record : v ≡ recordFor kind bytes packed
+  pub passes : Silent (givenRows kind bytes packed)
 
 -- Bytes of which one more follows n.
 last-apart : (w : List ℕ) (n : ℕ) → length w ≡ 1 + n → w ≡ take n w ++ (getD w n 0 ∷ [])
 last-apart w n l = split-at w n 0 (omega arith) ∙ rw (drop-of-length-le w {i = suc n} (omega arith))
 
 -- F7H in the place of the opcode.
-no-opcode : judge (framed (0x10 ∷ 0x06 ∷ [])) ≡ refused 6 0
+no-opcode : judge (framed (0x10 ∷ 0x06 ∷ [])) ≡ refused (outcome 6 0)
 unfolding judge kindOf
 no-opcode = refl
 
@@ -79,19 +83,38 @@ module _ (op : ℕ) (bytes packed : List ℕ) where
       let tested = sym (dump-tested k f n d s half) ∙ ap judge (sym whole) ∙ e in
       let passed = done-passed (dumpRows k n d s) (dumpRecord k n (pack d)) op bytes packed tested in
       let q = rows-passed k n d s (passed .0) in
-      aDump k n (pack d) f (whole ∙ dump-back k n d s (nibbles-pack d (omega arith) (q .narrow)) (q .summed)) (sym (passed .1))
-      (q .number) (omega (arith, length-pack d)) (q .packed)
+      let size-packed : length (pack d) ≡ size k = omega (arith, length-pack d) in
+      let back = number-back (k .behind) n (q .number) in
+      record {
+        kind = ofDump k;
+        bytes = numberIn (k .behind) n;
+        packed = pack d;
+        filed = f;
+        given = numbered (k .behind) n;
+        its-message = whole ∙ dump-back k n d s (nibbles-pack d (omega arith) (q .narrow)) (q .summed) ∙ rw back;
+        its-record = sym (passed .1);
+        passes = (rw (eq-eqb (length (pack d)) (size k) size-packed), (rw (back, q .number), q .packed));
+      }
 
   short-again : (k : Short) (r : List ℕ) → Filed (ofShort k) → Passed (ofShort k) (k .opcode) r → Accepted (messageOf (k .opcode) r) (done op bytes packed)
   short-again k r f p =
-      let l : length r ≡ countOf (k .change) = omega (arith, p .long) in
-      let b = short-bytes (k .opcode) r (countOf (k .change)) l in
-      aShort k r f refl (sym (rw b at (p .same))) l (rw b at (p .rows))
+      let l : length r ≡ countOf (k .operands) = omega (arith, p .long, filed-sized (ofShort k) f .0) in
+      let b = framed-bytes (countOf (k .operands)) (0x10 ∷ 0x06 ∷ k .opcode ∷ r) (omega arith) in
+      record {
+        kind = ofShort k;
+        bytes = r;
+        packed = [];
+        filed = f;
+        given = refl;
+        its-message = refl;
+        its-record = sym (rw b at (p .same));
+        passes = (rw (eq-eqb (length r) (countOf (k .operands)) l), rw b at (p .rows));
+      }
 
   -- A message of an opcode whose kind is k.
   by-kind : (k : Kind) (o : ℕ) (r : List ℕ) → o ≡ opcodeOf k → Filed k → judge (messageOf o r) ≡ done op bytes packed → Passed k o r
       → Accepted (messageOf o r) (done op bytes packed)
-  by-kind (ofDump k) o r q f e p = rw q (dump-again k r f (omega (arith, p .long)) (rw q at e))
+  by-kind (ofDump k) o r q f e p = rw q (dump-again k r f (omega (arith, p .long, filed-sized (ofDump k) f .0)) (rw q at e))
   by-kind (ofShort k) o r q f e p = rw q (short-again k r f (rw q at p))
   by-kind unknown o r q f e p = let z = p .known in let y : _≡_ {A = ℕ} 0 1 = cc in absurd (omega arith)
 

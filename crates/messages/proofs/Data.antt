@@ -6,7 +6,8 @@ use Prim.Native.Nat.{ℕ, _*_, _/_, _%_, _≤_}
 use native.Mathlib.Omega.{arith}
 use lib.ListN.{length, drop, drop-of-length-le}
 use borrow.Author.Tests.{eq-eqb, ne-eqb}
-use Rattle.answers.specs.Effect.{Gives, outcome, tested}
+use Rattle.answers.specs.Table.{outcome}
+use Rattle.answers.specs.Effect.{Gives, tested}
 use Rattle.answers.specs.declared.Outcome.{Outcome}
 use Rattle.nibbles.specs.Nibbles.{pack, sum, firstWide, packing}
 use Rattle.nibbles.proofs.Laws.{packing-wide, packing-done}
@@ -53,12 +54,12 @@ module _ (ns out after : List ℕ) (p : Outcome) (fits : length ns ≡ 2 * lengt
   not-zero : {A : Type 0} (n d : ℕ) → (n ≡ 0 → ⊥) → r ≡ outcome n d → r .answer ≡ 0 → A
   not-zero n d h e z = absurd (h (sym (ap (λ (o : Outcome). o .answer) e) ∙ z))
 
-  pub check-refused : (p .answer ≡ 0 → ⊥) → r ≡ outcome (p .answer) (p .detail) → Checked ns s after r
+  pub check-refused : (p .answer ≡ 0 → ⊥) → r ≡ p → Checked ns s after r
   check-refused n e = by-packed (packed ns out after p fits g)
     where
       by-packed : Packed ns out after p fits g → Checked ns s after r
       by-packed (wide i w q) =
-          record { outcome = e ∙ rw q (data-wide ns s i w); packed = not-zero (p .answer) (p .detail) n e }
+          record { outcome = e ∙ rw q (data-wide ns s i w); packed = λ z. absurd (n (sym (ap (λ (o : Outcome). o .answer) e) ∙ z)) }
       by-packed (whole w z q) = absurd (n z)
 
   pub check-sum : (x : ℕ) → p .answer ≡ 0 → x ≡ sum after → (x ≡ s → ⊥) → r ≡ outcome 10 0 → Checked ns s after r
@@ -83,7 +84,7 @@ data-refusals ns s = omega arith
 
 -- The test of a dump's data: stopped at the data and the sum, or left to the packed bytes.
 module _ (q : PackedBytes) (ns : List ℕ) (s : ℕ) (after : List ℕ) (d : Outcome) (k : Checked ns s after d) where
-  pub data-stopped : (d .answer ≡ 0 → ⊥) → outcome (d .answer) (d .detail) ≡ tested (dataRows ns s ++ packedRows q (pack ns))
+  pub data-stopped : (d .answer ≡ 0 → ⊥) → d ≡ tested (dataRows ns s ++ packedRows q (pack ns))
   data-stopped n =
       let e = k .outcome in
       rw (tested-stopped (dataRows ns s) (packedRows q (pack ns)) (λ z. n (ap (λ (o : Outcome). o .answer) e ∙ z))) e

@@ -10,14 +10,15 @@ use lib.ListN.{length, length-append}
 use lib.Seq.{take-at, getD-at, getD-drop}
 use borrow.Author.Tests.{eq-eqb, ne-eqb}
 use Rattle.answers.specs.Lists.{All}
-use Rattle.answers.specs.Table.{Row, row, rowAt, Verdict, done, refused, first, answerOf}
-use Rattle.answers.proofs.Rows.{Silent, Refusals, first-passed, zero-silent, row-silent, row-at-silent, row-equal}
+use Rattle.answers.specs.Table.{Row, row, rowAt, Verdict, done, refused, first, outcome, answerOf, Silent}
+use Rattle.answers.proofs.Rows.{Refusals, first-passed, zero-silent, row-silent, row-at-silent, row-equal}
 use Rattle.nibbles.specs.Nibbles.{nibbles, pack, sum, firstWide}
 use Rattle.nibbles.proofs.Laws.{length-nibbles, pack-nibbles, nibbles-narrow, not-wide, wide-none}
 use Rattle.patch.specs.Patch.{fieldRows}
 use Rattle.messages.specs.Kinds.{Dump, ofDump, Filed, sizeOf}
 use Rattle.messages.specs.Judge.{dataOf, packedOf, sumOf, dataRows, misnumbered, numberIn, packedRows, dumpRows, judge}
 use Rattle.messages.specs.Layout.{messageOf, dump}
+use Rattle.messages.proofs.Filed.{filed-sized}
 use Rattle.messages.proofs.Numbers.{packed-refusals}
 
 -- The number of bytes of a message, the n and w behind its opcode.
@@ -65,10 +66,10 @@ module _ (k : Dump) (filed : Filed (ofDump k)) (n : ℕ) where
   dump-judged : (w : List ℕ) (m : List ℕ) → m ≡ messageOf (k .opcode) (n ∷ w)
       → judge m ≡ first (row 7 (not (eqb (length m) (7 + 2 * size k))) ∷ dumpRows k n (dataOf (size k) m) (sumOf (size k) m)) (dumpRecord k n (packedOf (size k) m))
   unfolding judge
-  dump-judged w m e = rw (e, filed)
+  dump-judged w m e = rw (e, filed, filed-sized (ofDump k) filed .0)
 
   -- A dump of another length is refused by 7.
-  pub wrong-length : (w : List ℕ) → (length w ≡ 1 + 2 * size k → ⊥) → judge (messageOf (k .opcode) (n ∷ w)) ≡ refused 7 0
+  pub wrong-length : (w : List ℕ) → (length w ≡ 1 + 2 * size k → ⊥) → judge (messageOf (k .opcode) (n ∷ w)) ≡ refused (outcome 7 0)
   wrong-length w h =
       let m = messageOf (k .opcode) (n ∷ w) in
       rw (dump-judged w m refl, ne-eqb (length m) (7 + 2 * size k) (λ e. h (omega (arith, message-length (k .opcode) n w))))

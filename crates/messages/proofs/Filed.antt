@@ -1,5 +1,5 @@
 -- What holds of every kind of the list holds of the kind that an opcode finds; and that kind has the opcode.
-use mathlib.Core.Path.{_≡_, refl, sym, ap}
+use mathlib.Core.Path.{_≡_, refl, sym, ap, subst}
 use mathlib.Core.Bool.{Bool, true, false, cond}
 use mathlib.Core.List.{List, [], _∷_}
 use Prim.Native.Nat.{ℕ, _≤_}
@@ -7,7 +7,7 @@ use native.Mathlib.Omega.{arith}
 use lib.Dec.{eqb}
 use borrow.Author.Tests.{eqb-true}
 use Rattle.answers.specs.Lists.{All}
-use Rattle.messages.specs.Kinds.{Kind, unknown, kinds, opcodeOf, among, kindOf, Filed, lengthOf, isUnknown}
+use Rattle.messages.specs.Kinds.{Kind, unknown, kinds, opcodeOf, among, kindOf, Filed, lengthOf, isUnknown, Sized}
 
 among-all : (P : Kind → Type 0) → P unknown → (ks : List Kind) → All P ks → (o : ℕ) → P (among ks o)
 among-all P u [] a o = u
@@ -39,6 +39,13 @@ found-opcode o h = among-opcode kinds o h
 -- What is found is one of the kinds.
 pub found-filed : (o : ℕ) → isUnknown (kindOf o) ≡ false → Filed (kindOf o)
 found-filed o h = sym (ap kindOf (found-opcode o h))
+
+-- Each kind has the length that its parts add up to, and fits.
+pub kind-sized : (o : ℕ) → Sized (kindOf o)
+kind-sized = every-kind Sized tt (omega arith)
+
+pub filed-sized : (k : Kind) → Filed k → Sized k
+filed-sized k f = subst Sized f (kind-sized (opcodeOf k))
 
 -- No kind is longer than 351.
 pub longest : (o : ℕ) → lengthOf (kindOf o) ≤ 351

@@ -10,8 +10,10 @@ use Rattle.answers.proofs.Lists.{all-weaken}
 use Rattle.answers.proofs.Rows.{numberOf, Refusals, first-number, zero-silent, row-equal}
 use Rattle.nibbles.specs.Nibbles.{pack}
 use Rattle.edits.specs.Edits.{editRows, busRows}
-use Rattle.messages.specs.Kinds.{Packed, aPatch, anyBytes, Change, edit, busChange, Kind, ofDump, ofShort, unknown, rowsOf, countOf, kindOf, sizeOf}
-use Rattle.messages.specs.Judge.{byteAt, dataOf, dataRows, packedRows, bytesFrom, kindRows, messageRows, recordOf, judge}
+use Rattle.answers.specs.declared.Outcome.{Outcome}
+use Rattle.messages.specs.Kinds.{Packed, aPatch, anyBytes, Dump, Operands, anEdit, aBusEdit, Kind, ofDump, ofShort, unknown, countOf, kindOf, sizeOf}
+use Rattle.messages.specs.Judge.{byteAt, dataOf, dataRows, packedRows, operandRows, bytesFrom, kindRows, messageRows, recordOf, judge}
+use Rattle.messages.specs.Layout.{behindFor, dumpGiven, givenRows}
 
 -- The numbers of a refused message: 4 to 12, and 14.
 abbrev pub Listed : ℕ → Type 0
@@ -25,24 +27,33 @@ packed-numbers : (q : Packed) (p : List ℕ) → RowsListed (packedRows q p)
 packed-numbers aPatch p = omega arith
 packed-numbers (anyBytes count) p = tt
 
-change-numbers : (c : Change) (b : List ℕ) → RowsListed (rowsOf c b)
+operand-numbers : (o : Operands) (b : List ℕ) → RowsListed (operandRows o b)
 unfolding editRows busRows
-change-numbers edit b = omega arith
-change-numbers busChange b = omega arith
+operand-numbers anEdit b = omega arith
+operand-numbers aBusEdit b = omega arith
 
 kind-numbers : (k : Kind) (m : List ℕ) → RowsListed (kindRows k m)
 unfolding dataRows
 kind-numbers (ofDump k) m =
     (omega arith, (omega arith, (omega arith, packed-numbers (k .packed) (pack (dataOf (sizeOf (k .packed)) m)))))
-kind-numbers (ofShort k) m = change-numbers (k .change) (bytesFrom (countOf (k .change)) 4 m)
+kind-numbers (ofShort k) m = operand-numbers (k .operands) (bytesFrom (countOf (k .operands)) 4 m)
 kind-numbers unknown m = tt
 
 -- The rows of packed bytes and of a short message are refusals.
 pub packed-refusals : (q : Packed) (p : List ℕ) → Refusals (packedRows q p)
 packed-refusals q p = all-weaken _ _ (λ r h z. omega arith) (packedRows q p) (packed-numbers q p)
 
-pub change-refusals : (c : Change) (b : List ℕ) → Refusals (rowsOf c b)
-change-refusals c b = all-weaken _ _ (λ r h z. omega arith) (rowsOf c b) (change-numbers c b)
+pub operand-refusals : (o : Operands) (b : List ℕ) → Refusals (operandRows o b)
+operand-refusals o b = all-weaken _ _ (λ r h z. omega arith) (operandRows o b) (operand-numbers o b)
+
+-- So are those of what a writer is given.
+pub dump-given-refusals : (k : Dump) (n : ℕ) (p : List ℕ) → Refusals (dumpGiven k n p)
+dump-given-refusals k n p = ((λ z. omega arith), ((λ z. omega arith), packed-refusals (k .packed) p))
+
+pub given-refusals : (k : Kind) (b p : List ℕ) → Refusals (givenRows k b p)
+given-refusals (ofDump k) b p = dump-given-refusals k (behindFor (k .behind) b) p
+given-refusals (ofShort k) b p = ((λ z. omega arith), operand-refusals (k .operands) b)
+given-refusals unknown b p = tt
 
 -- Every row of the table has a listed number.
 pub row-numbers : (m : List ℕ) → All (λ r. Listed (numberOf r)) (messageRows m)
@@ -59,16 +70,16 @@ record-done (ofShort k) m = made _ _ _ refl
 record-done unknown m = made _ _ _ refl
 
 -- A refused message has a listed number.
-pub judge-number : (m : List ℕ) (n d : ℕ) → judge m ≡ refused n d → Listed n
+pub judge-number : (m : List ℕ) (r : Outcome) → judge m ≡ refused r → Listed (r .answer)
 unfolding judge
-judge-number m n d e = go (record-done (kindOf (byteAt m 3)) m)
+judge-number m r e = go (record-done (kindOf (byteAt m 3)) m)
   where
-    go : IsDone (recordOf (kindOf (byteAt m 3)) m) → Listed n
-    go (made o b p q) = first-number Listed (messageRows m) o b p n d (row-numbers m) (rw q at e)
+    go : IsDone (recordOf (kindOf (byteAt m 3)) m) → Listed (r .answer)
+    go (made o b p q) = first-number Listed (messageRows m) o b p r (row-numbers m) (rw q at e)
 
 -- So its number is neither 0 nor 13.
-pub refused-number : (m : List ℕ) (n d : ℕ) → judge m ≡ refused n d → (n ≡ 0 → ⊥) × (n ≡ 13 → ⊥)
-refused-number m n d e = let l = judge-number m n d e in omega arith
+pub refused-number : (m : List ℕ) (r : Outcome) → judge m ≡ refused r → (r .answer ≡ 0 → ⊥) × (r .answer ≡ 13 → ⊥)
+refused-number m r e = let l = judge-number m r e in omega arith
 
 -- No message is answered 13.
 pub never-13 : (m : List ℕ) → answerOf (judge m) ≡ 13 → ⊥
@@ -76,7 +87,7 @@ never-13 m e = go (judge m) refl e
   where
     go : (v : Verdict) → judge m ≡ v → answerOf v ≡ 13 → ⊥
     go (done o b p) q e = omega arith
-    go (refused n d) q e = refused-number m n d q .1 e
+    go (refused r) q e = refused-number m r q .1 e
 
 -- The rows of the table are refusals.
 pub message-refusals : (m : List ℕ) → Refusals (messageRows m)

@@ -9,9 +9,9 @@ use native.Mathlib.Omega.{arith}
 use lib.ListN.{length, length-append}
 use lib.Seq.{append-snoc}
 use Rattle.answers.specs.Lists.{All}
-use Rattle.answers.specs.Table.{answerOf}
+use Rattle.answers.specs.Table.{answerOf, Silent}
 use Rattle.answers.proofs.Lists.{all-at}
-use Rattle.answers.proofs.Rows.{Silent, row-at-silent}
+use Rattle.answers.proofs.Rows.{row-at-silent}
 use Rattle.frames.specs.Bytes.{framed}
 use Rattle.nibbles.specs.Nibbles.{nibbles, pack, sum}
 use Rattle.nibbles.proofs.Laws.{length-nibbles, pack-nibbles, pack-low, pack-high, low-changes-sum, high-changes-sum, Position, at-low, at-high, at-sum, position}

@@ -1,6 +1,6 @@
--- The messages as our writers write them: what stands between F0H and F7H is data bytes, and an edit that passes its tests is accepted with its own bytes.
+-- The messages as our writers write them: what stands between F0H and F7H is data bytes, and a message that passes its writer's tests is accepted with its record.
 -- Numbers are below 100, nibbles below 16, the sum below 128; a parameter, a bus and its bytes are in range.
-use mathlib.Core.Path.{_≡_, refl, sym, subst}
+use mathlib.Core.Path.{_≡_, refl, sym, ap, _∙_, subst}
 use mathlib.Core.Bool.{false}
 use mathlib.Core.List.{List, [], _∷_, _++_, append-nil}
 use mathlib.Core.Option.{Option, none, some}
@@ -8,23 +8,26 @@ use Prim.Native.Nat.{ℕ, suc, _+_, _*_, _<_}
 use native.Mathlib.Omega.{arith}
 use lib.Dec.{eqb}
 use lib.ListN.{length, getD, length-append}
-use lib.Seq.{append-snoc, getD-append-seam}
 use borrow.Author.Tests.{eq-eqb, eqb-true, not-false, ltb-false}
 use Rattle.answers.specs.Lists.{All}
-use Rattle.answers.specs.Table.{done}
+use Rattle.answers.specs.Table.{done, Silent}
 use Rattle.answers.proofs.Lists.{all-append, all-weaken}
-use Rattle.answers.proofs.Rows.{Silent, first-passed}
+use Rattle.answers.proofs.Rows.{first-passed, row-silent, row-equal, row-at-silent}
+use Rattle.frames.specs.Bytes.{framed}
 use Rattle.nibbles.specs.Nibbles.{nibbles, sum}
 use Rattle.nibbles.proofs.Laws.{nibbles-narrow, sum-below}
 use Rattle.patch.specs.Fields.{placeOf}
-use Rattle.patch.proofs.Rules.{found-place, parameter-number, one-in}
+use Rattle.patch.specs.Patch.{firstOut}
+use Rattle.patch.proofs.Rules.{found-place, parameter-number, one-in, fields-bytes}
 use Rattle.patch.proofs.Buses.{source-below, destination-below}
 use Rattle.edits.specs.Edits.{extended, editRows, busRows}
 use Rattle.edits.proofs.Tests.{rows-at, rows-nowhere, value-small, bus-number, bus-amount, bus-bytes}
-use Rattle.messages.specs.Kinds.{Behind, numberTo, always, Change, edit, busChange, Short, Kind, ofDump, ofShort, unknown, rowsOf, countOf, opcodeOf, Filed}
-use Rattle.messages.specs.Judge.{misnumbered, bytesFrom, judge}
-use Rattle.messages.specs.Layout.{messageOf, shortMessage}
-use Rattle.messages.proofs.Filed.{every-kind}
+use Rattle.messages.specs.Kinds.{Behind, numberTo, always, Packed, aPatch, anyBytes, Operands, anEdit, aBusEdit, Short, Kind, ofDump, ofShort, unknown, countOf, sizeOf, opcodeOf, Filed}
+use Rattle.messages.specs.Judge.{misnumbered, numberIn, packedRows, operandRows, bytesFrom, judge}
+use Rattle.messages.specs.Layout.{messageOf, dump, behindFor, message, recordFor, Numbered, Given, AllBytes, BytesIn, givenRows}
+use Rattle.messages.proofs.Filed.{every-kind, filed-sized}
+use Rattle.messages.proofs.Content.{bytes-at, framed-bytes}
+use Rattle.messages.proofs.DumpLaws.{dump-accepted}
 
 -- What stands between F0H and F7H of a dump.
 abbrev pub dumpContent : ℕ → ℕ → List ℕ → List ℕ
@@ -35,23 +38,15 @@ dump-data op n p o h a =
     let nibbled = all-weaken (λ b. b < 16) (λ b. b < 0x80) (λ b q. omega arith) (nibbles p) (nibbles-narrow p a) in
     (omega arith, (omega arith, (o, (h, all-append (λ b. b < 0x80) (nibbles p) (sum p ∷ []) nibbled (sum-below p, tt)))))
 
--- The bytes r of a message, from the place where they stand.
-bytes-at : (front r behind : List ℕ) → bytesFrom (length r) (length front) (front ++ (r ++ behind)) ≡ r
-bytes-at front [] behind = refl
-bytes-at front (x ∷ r) behind =
-    let one : length (front ++ (x ∷ [])) ≡ suc (length front) = omega (arith, length-append front (x ∷ [])) in
-    rw (getD-append-seam front x (r ++ behind) 0, rw (append-snoc front x (r ++ behind), one) at (bytes-at (front ++ (x ∷ [])) r behind))
-
-pub short-bytes : (op : ℕ) (r : List ℕ) (n : ℕ) → length r ≡ n → bytesFrom n 4 (messageOf op r) ≡ r
-short-bytes op r n l = rw (← l) (bytes-at (0xF0 ∷ 0x10 ∷ 0x06 ∷ op ∷ []) r (0xF7 ∷ []))
-
 -- A short message whose rows say nothing is accepted.
-pub short-accepted : (k : Short) → Filed (ofShort k) → (b : List ℕ) → length b ≡ countOf (k .change) → Silent (rowsOf (k .change) b) → judge (shortMessage k b) ≡ done (k .opcode) b []
+pub short-accepted : (k : Short) → Filed (ofShort k) → (b : List ℕ) → length b ≡ countOf (k .operands) → Silent (operandRows (k .operands) b)
+    → judge (messageOf (k .opcode) b) ≡ done (k .opcode) b []
 unfolding judge
 short-accepted k f b l a =
-    let m = shortMessage k b in
-    let right : length m ≡ 5 + countOf (k .change) = omega (arith, length-append b (0xF7 ∷ [])) in
-    rw (f, eq-eqb (length m) (5 + countOf (k .change)) right, short-bytes (k .opcode) b (countOf (k .change)) l) (first-passed (rowsOf (k .change) b) (done (k .opcode) b []) a)
+    let m = messageOf (k .opcode) b in
+    let right : length m ≡ k .length = omega (arith, length-append b (0xF7 ∷ []), filed-sized (ofShort k) f .0) in
+    let same = framed-bytes (countOf (k .operands)) (0x10 ∷ 0x06 ∷ k .opcode ∷ b) (omega arith) in
+    rw (f, eq-eqb (length m) (k .length) right, same) (first-passed (operandRows (k .operands) b) (done (k .opcode) b []) a)
 
 -- A list of so many bytes, spelled out.
 spelled : (b : List ℕ) (n : ℕ) → length b ≡ n → b ≡ bytesFrom n 0 b
@@ -87,16 +82,17 @@ greatestOf (always byte) = byte
 -- What stands behind the device of a message that passes its tests is below 80H: opcode, number, a short message's bytes.
 abbrev pub SevenBits : Kind → Type 0
 SevenBits (ofDump k) = (k .opcode < 0x80) × ((n : ℕ) → misnumbered (k .behind) n ≡ false → n < 0x80)
-SevenBits (ofShort k) = (k .opcode < 0x80) × ((b : List ℕ) → length b ≡ countOf (k .change) → Silent (rowsOf (k .change) b) → All (λ x. x < 0x80) b)
+SevenBits (ofShort k) =
+    (k .opcode < 0x80) × ((b : List ℕ) → length b ≡ countOf (k .operands) → Silent (operandRows (k .operands) b) → All (λ x. x < 0x80) b)
 SevenBits unknown = Unit {0}
 
 number-seven : (b : Behind) → greatestOf b < 0x80 → (n : ℕ) → misnumbered b n ≡ false → n < 0x80
 number-seven (numberTo greatest) h n e = omega (arith, ltb-false greatest n e)
 number-seven (always byte) h n e = omega (arith, eqb-true n byte (not-false (eqb n byte) e))
 
-change-seven : (c : Change) (b : List ℕ) → length b ≡ countOf c → Silent (rowsOf c b) → All (λ x. x < 0x80) b
-change-seven edit b l a = rw (spelled b 2 l) (edit-data (getD b 0 0) (getD b 1 0) a)
-change-seven busChange b l a = rw (spelled b 4 l) (bus-data (getD b 0 0) (getD b 1 0) (getD b 2 0) (getD b 3 0) a)
+operands-seven : (o : Operands) (b : List ℕ) → length b ≡ countOf o → Silent (operandRows o b) → All (λ x. x < 0x80) b
+operands-seven anEdit b l a = rw (spelled b 2 l) (edit-data (getD b 0 0) (getD b 1 0) a)
+operands-seven aBusEdit b l a = rw (spelled b 4 l) (bus-data (getD b 0 0) (getD b 1 0) (getD b 2 0) (getD b 3 0) a)
 
 abbrev Small : Kind → Type 0
 Small (ofDump k) = (k .opcode < 0x80) × (greatestOf (k .behind) < 0x80)
@@ -108,5 +104,56 @@ seven-bits k f = go k (subst Small f (every-kind Small tt (omega arith) (opcodeO
   where
     go : (k : Kind) → Small k → SevenBits k
     go (ofDump k) s = (s .0, number-seven (k .behind) (s .1))
-    go (ofShort k) s = (s, change-seven (k .change))
+    go (ofShort k) s = (s, operands-seven (k .operands))
     go unknown s = tt
+
+-- The number that comes with the answer is the byte behind the opcode, and back.
+pub number-given : (x : Behind) (b : List ℕ) → Numbered x b → numberIn x (behindFor x b) ≡ b
+number-given (numberTo greatest) b l = sym (spelled b 1 l)
+number-given (always byte) b e = sym e
+
+pub number-back : (x : Behind) (n : ℕ) → misnumbered x n ≡ false → behindFor x (numberIn x n) ≡ n
+number-back (numberTo greatest) n e = refl
+number-back (always byte) n e = sym (eqb-true n byte (not-false (eqb n byte) e))
+
+pub numbered : (x : Behind) (n : ℕ) → Numbered x (numberIn x n)
+numbered (numberTo greatest) n = refl
+numbered (always byte) n = refl
+
+-- The packed bytes that a writer takes are bytes.
+packed-bytes : (q : Packed) (p : List ℕ) → length p ≡ sizeOf q → AllBytes q p → Silent (packedRows q p) → All (λ b. b < 256) p
+packed-bytes aPatch p l u a = fields-bytes p l (row-at-silent 11 (firstOut p) (a .0))
+packed-bytes (anyBytes count) p l bytes a = bytes
+
+-- A message of data bytes between F0H and F7H that is accepted with its record.
+pub record Sound (k : Kind) (b p : List ℕ) : Type 0 where
+  pub content : List ℕ
+  pub bytes : message k b p ≡ framed content
+  pub seven : All (λ x. x < 0x80) content
+  pub accepted : judge (message k b p) ≡ recordFor k b p
+
+-- What a writer takes makes such a message.
+pub sound : (k : Kind) (b p : List ℕ) → Filed k → Given k b p → BytesIn k p → Silent (givenRows k b p) → Sound k b p
+unfolding dump
+sound (ofDump k) b p f g u a =
+    let n = behindFor (k .behind) b in
+    let l = row-equal 7 (length p) (sizeOf (k .packed)) (a .0) in
+    let number = row-silent 8 (misnumbered (k .behind) n) (a .1 .0) in
+    let bytes = packed-bytes (k .packed) p l u (a .1 .1) in
+    let small = seven-bits (ofDump k) f in
+    record {
+      content = dumpContent (k .opcode) n p;
+      bytes = refl;
+      seven = dump-data (k .opcode) n p (small .0) (small .1 n number) bytes;
+      accepted = dump-accepted k f n p number l bytes (a .1 .1) ∙ ap (λ (x : List ℕ). done (k .opcode) x p) (number-given (k .behind) b g);
+    }
+sound (ofShort k) b p f g u a =
+    let small = seven-bits (ofShort k) f in
+    let l = row-equal 7 (length b) (countOf (k .operands)) (a .0) in
+    record {
+      content = 0x10 ∷ 0x06 ∷ k .opcode ∷ b;
+      bytes = refl;
+      seven = (omega arith, (omega arith, (small .0, small .1 b l (a .1))));
+      accepted = rw g (short-accepted k f b l (a .1));
+    }
+sound unknown b p f g u a = absurd g

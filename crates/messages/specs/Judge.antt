@@ -7,7 +7,8 @@ use lib.ListN.{length, take, drop, getD}
 use Rattle.answers.specs.Table.{Row, row, rowAt, Verdict, done, first}
 use Rattle.nibbles.specs.Nibbles.{pack, sum, firstWide}
 use Rattle.patch.specs.Patch.{fieldRows}
-use Rattle.messages.specs.Kinds.{Behind, numberTo, always, Packed, aPatch, anyBytes, Dump, Kind, ofDump, ofShort, unknown, rowsOf, countOf, kindOf, sizeOf, lengthOf, isUnknown}
+use Rattle.edits.specs.Edits.{editRows, busRows}
+use Rattle.messages.specs.Kinds.{Behind, numberTo, always, Packed, aPatch, anyBytes, Dump, Operands, anEdit, aBusEdit, Kind, ofDump, ofShort, unknown, kindOf, countOf, sizeOf, lengthOf, isUnknown}
 
 -- The byte at place i of a message, F0H at 0.
 abbrev pub byteAt : List ℕ → ℕ → ℕ
@@ -42,13 +43,21 @@ abbrev pub packedRows : Packed → List ℕ → List Row
 packedRows aPatch p = fieldRows p
 packedRows (anyBytes count) p = []
 
--- The same of lent bytes: 7 first.
-abbrev pub lentRows : Packed → List ℕ → List Row
-lentRows q p = row 7 (not (eqb (length p) (sizeOf q))) ∷ packedRows q p
-
 -- The tests of a dump behind its length: the byte n behind its opcode, the data bytes d, the sum s.
 abbrev pub dumpRows : Dump → ℕ → List ℕ → ℕ → List Row
 dumpRows k n d s = row 8 (misnumbered (k .behind) n) ∷ (dataRows d s ++ packedRows (k .packed) (pack d))
+
+-- The tests of a short message's bytes: an edit's own.
+abbrev pub operandRows : Operands → List ℕ → List Row
+operandRows anEdit b = editRows (getD b 0 0) (getD b 1 0)
+operandRows aBusEdit b = busRows (getD b 0 0) (getD b 1 0) (getD b 2 0) (getD b 3 0)
+
+-- The same of packed bytes and of a short message's bytes as they are lent to a routine: another count of them is 7.
+abbrev pub lentRows : Packed → List ℕ → List Row
+lentRows q p = row 7 (not (eqb (length p) (sizeOf q))) ∷ packedRows q p
+
+abbrev pub lentOperandRows : Operands → List ℕ → List Row
+lentOperandRows o b = row 7 (not (eqb (length b) (countOf o))) ∷ operandRows o b
 
 -- So many bytes of a message from place i on.
 abbrev pub bytesFrom : ℕ → ℕ → List ℕ → List ℕ
@@ -60,32 +69,30 @@ abbrev pub kindRows : Kind → List ℕ → List Row
 kindRows (ofDump k) m =
     let size = sizeOf (k .packed) in
     dumpRows k (byteAt m 4) (dataOf size m) (sumOf size m)
-kindRows (ofShort k) m = rowsOf (k .change) (bytesFrom (countOf (k .change)) 4 m)
+kindRows (ofShort k) m = operandRows (k .operands) (bytesFrom (countOf (k .operands)) 4 m)
 kindRows unknown m = []
 
 -- The record of a message that passes: opcode, the number or the bytes as received, packed bytes.
 abbrev pub recordOf : Kind → List ℕ → Verdict
 recordOf (ofDump k) m = done (k .opcode) (numberIn (k .behind) (byteAt m 4)) (packedOf (sizeOf (k .packed)) m)
-recordOf (ofShort k) m = done (k .opcode) (bytesFrom (countOf (k .change)) 4 m) []
+recordOf (ofShort k) m = done (k .opcode) (bytesFrom (countOf (k .operands)) 4 m) []
 recordOf unknown m = done 0 [] []
 
--- What a message of a known kind comes to: the rows from 7 on, else its record.
-unfoldable pub kindVerdict : Kind → List ℕ → Verdict
-kindVerdict k m = first (row 7 (not (eqb (length m) (lengthOf k))) ∷ kindRows k m) (recordOf k m)
-
--- What a message of an opcode comes to: 6 for an unknown one.
-unfoldable pub opcodeVerdict : ℕ → List ℕ → Verdict
-opcodeVerdict opcode m = first (row 6 (isUnknown (kindOf opcode)) ∷ []) (kindVerdict (kindOf opcode) m)
+-- The table of a kind, from 6 on.
+abbrev pub kindTable : Kind → List ℕ → List Row
+kindTable k m = row 6 (isUnknown k) ∷ row 7 (not (eqb (length m) (lengthOf k))) ∷ kindRows k m
 
 -- The table, from 4 on.
 abbrev pub messageRows : List ℕ → List Row
 messageRows m =
     row 4 (not (eqb (byteAt m 1) 0x10)) ∷
     row 5 (not (eqb (byteAt m 2) 0x06)) ∷
-    row 6 (isUnknown (kindOf (byteAt m 3))) ∷
-    row 7 (not (eqb (length m) (lengthOf (kindOf (byteAt m 3))))) ∷
-    kindRows (kindOf (byteAt m 3)) m
+    kindTable (kindOf (byteAt m 3)) m
 
 -- What a message comes to: the first row of the table that holds, else its record.
 unfoldable pub judge : List ℕ → Verdict
 judge m = first (messageRows m) (recordOf (kindOf (byteAt m 3)) m)
+
+-- The same of a message whose maker and device have passed, by its kind.
+unfoldable pub kindVerdict : Kind → List ℕ → Verdict
+kindVerdict k m = first (kindTable k m) (recordOf k m)

@@ -1,22 +1,28 @@
--- A verdict as the code answers it: plain numbers.
+-- A verdict as the code answers it, and what the test of a dump's data leaves.
 use mathlib.Core.Path.{_≡_}
-use mathlib.Core.List.{List}
+use mathlib.Core.List.{List, []}
 use Prim.Native.Nat.{ℕ, _+_, _*_}
 use lib.ListN.{take, drop, getD}
-use Rattle.answers.specs.Table.{Verdict, done, refused}
-use Rattle.answers.specs.Effect.{tested}
 use Rattle.answers.specs.declared.Outcome.{Outcome}
+use Rattle.answers.specs.Table.{Verdict, done, refused, outcome, outcomeOf, four}
+use Rattle.answers.specs.Effect.{tested}
 use Rattle.nibbles.specs.Nibbles.{pack}
-use Rattle.messages.specs.declared.judged.Judged.{Judged}
+use Rattle.messages.specs.declared.judging.Judged.{Judged}
 use Rattle.messages.specs.Judge.{dataRows}
 
-abbrev pub judgedAs : ℕ → ℕ → ℕ → ℕ → ℕ → ℕ → Judged
-judgedAs a d b₁ b₂ b₃ b₄ = record { answer = a; detail = d; first = b₁; second = b₂; third = b₃; fourth = b₄ }
+abbrev pub bytesIn : Verdict → List ℕ
+bytesIn (done op b p) = b
+bytesIn (refused o) = []
 
 -- The bytes that come with an answer, zero behind the last.
 abbrev pub judged : Verdict → Judged
-judged (done op b p) = judgedAs 0 op (getD b 0 0) (getD b 1 0) (getD b 2 0) (getD b 3 0)
-judged (refused n d) = judgedAs n d 0 0 0 0
+judged v = record { outcome = outcomeOf v; bytes = four (bytesIn v) }
+
+abbrev pub judgedAs : ℕ → List ℕ → Judged
+judgedAs opcode b = record { outcome = outcome 0 opcode; bytes = b }
+
+abbrev pub refusedBy : Outcome → Judged
+refusedBy o = judged (refused o)
 
 -- What the test of a dump's data gave: its outcome, and when done the packed bytes.
 pub record Checked (d : List ℕ) (s : ℕ) (after : List ℕ) (r : Outcome) : Type 0 where

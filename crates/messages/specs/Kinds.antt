@@ -2,52 +2,51 @@
 use mathlib.Core.Path.{_≡_}
 use mathlib.Core.Bool.{Bool, true, false, cond}
 use mathlib.Core.List.{List, [], _∷_}
-use Prim.Native.Nat.{ℕ, _+_, _*_}
+use Prim.Native.Nat.{ℕ, _+_, _*_, _≤_}
 use lib.Dec.{eqb}
-use lib.ListN.{getD}
-use Rattle.answers.specs.Table.{Row}
-use Rattle.edits.specs.Edits.{editRows, busRows}
 pub use Rattle.messages.specs.declared.kinds.Behind.{Behind}
 pub use Rattle.messages.specs.declared.kinds.Behind.the-variants.{NumberTo as numberTo, Always as always}
 pub use Rattle.messages.specs.declared.kinds.Packed.{Packed}
 pub use Rattle.messages.specs.declared.kinds.Packed.the-variants.{Patch as aPatch, AnyBytes as anyBytes}
 pub use Rattle.messages.specs.declared.kinds.Dump.{Dump}
-pub use Rattle.messages.specs.declared.kinds.Change.{Change}
-pub use Rattle.messages.specs.declared.kinds.Change.the-variants.{Edit as edit, BusEdit as busChange}
+pub use Rattle.messages.specs.declared.kinds.Operands.{Operands}
+pub use Rattle.messages.specs.declared.kinds.Operands.the-variants.{Edit as anEdit, BusEdit as aBusEdit}
 pub use Rattle.messages.specs.declared.kinds.Short.{Short}
 pub use Rattle.messages.specs.declared.kinds.Kind.{Kind}
 pub use Rattle.messages.specs.declared.kinds.Kind.the-variants.{Dump as ofDump, Short as ofShort, Unknown as unknown}
 
--- Its tests.
-abbrev pub rowsOf : Change → List ℕ → List Row
-rowsOf edit b = editRows (getD b 0 0) (getD b 1 0)
-rowsOf busChange b = busRows (getD b 0 0) (getD b 1 0) (getD b 2 0) (getD b 3 0)
+-- How many packed bytes a dump has.
+abbrev pub sizeOf : Packed → ℕ
+sizeOf aPatch = 134
+sizeOf (anyBytes count) = count
 
--- How many bytes.
-abbrev pub countOf : Change → ℕ
-countOf edit = 2
-countOf busChange = 4
+-- How many bytes a short message has behind its opcode.
+abbrev pub countOf : Operands → ℕ
+countOf anEdit = 2
+countOf aBusEdit = 4
+
+-- A dump: F0H 10H 06H, opcode, the byte behind it, two data bytes for each packed byte, the sum, F7H.
+abbrev pub dumpKind : ℕ → Behind → Packed → Dump
+dumpKind o b p = record { opcode = o; length = 7 + 2 * sizeOf p; behind = b; packed = p }
+
+-- A short message: F0H 10H 06H, opcode, the bytes behind it, F7H.
+abbrev pub shortKind : ℕ → Operands → Short
+shortKind o b = record { opcode = o; length = 5 + countOf b; operands = b }
 
 abbrev pub singlePatch : Dump
-singlePatch = record { opcode = 0x01; behind = numberTo 99; packed = aPatch }
+singlePatch = dumpKind 0x01 (numberTo 99) aPatch
 
 abbrev pub masterParameters : Dump
-masterParameters = record { opcode = 0x03; behind = always 3; packed = anyBytes 172 }
-
-abbrev pub editBy : ℕ → Short
-editBy op = record { opcode = op; change = edit }
-
-abbrev pub busEditBy : ℕ → Short
-busEditBy op = record { opcode = op; change = busChange }
+masterParameters = dumpKind 0x03 (always 3) (anyBytes 172)
 
 abbrev pub remoteEdit : Short
-remoteEdit = editBy 0x06
+remoteEdit = shortKind 0x06 anEdit
 
 abbrev pub busEdit : Short
-busEdit = busEditBy 0x0B
+busEdit = shortKind 0x0B aBusEdit
 
 abbrev pub editBuffer : Dump
-editBuffer = record { opcode = 0x0D; behind = always 0; packed = aPatch }
+editBuffer = dumpKind 0x0D (always 0) aPatch
 
 -- The kinds, in the order in which the code asks for them.
 abbrev pub kinds : List Kind
@@ -70,10 +69,16 @@ kindOf opcode = among kinds opcode
 abbrev pub Filed : Kind → Type 0
 Filed k = kindOf (opcodeOf k) ≡ k
 
--- How many packed bytes.
-abbrev pub sizeOf : Packed → ℕ
-sizeOf aPatch = 134
-sizeOf (anyBytes count) = count
+abbrev pub isUnknown : Kind → Bool
+isUnknown (ofDump k) = false
+isUnknown (ofShort k) = false
+isUnknown unknown = true
+
+-- The length of a complete message after dropping, F0H and F7H included.
+abbrev pub lengthOf : Kind → ℕ
+lengthOf (ofDump k) = k .length
+lengthOf (ofShort k) = k .length
+lengthOf unknown = 0
 
 -- The packed bytes of a kind: none where it is no dump.
 abbrev pub packedSize : Kind → ℕ
@@ -81,13 +86,8 @@ packedSize (ofDump k) = sizeOf (k .packed)
 packedSize (ofShort k) = 0
 packedSize unknown = 0
 
--- The length of a complete message after dropping, F0H and F7H included.
-abbrev pub lengthOf : Kind → ℕ
-lengthOf (ofDump k) = 7 + 2 * sizeOf (k .packed)
-lengthOf (ofShort k) = 5 + countOf (k .change)
-lengthOf unknown = 0
-
-abbrev pub isUnknown : Kind → Bool
-isUnknown (ofDump k) = false
-isUnknown (ofShort k) = false
-isUnknown unknown = true
+-- A kind's length is what its parts add up to, and it fits the room that the code has for it: 172 packed bytes, four bytes with the answer.
+abbrev pub Sized : Kind → Type 0
+Sized (ofDump k) = (k .length ≡ 7 + 2 * sizeOf (k .packed)) × (sizeOf (k .packed) ≤ 172)
+Sized (ofShort k) = (k .length ≡ 5 + countOf (k .operands)) × (countOf (k .operands) ≤ 4)
+Sized unknown = Unit {0}

@@ -1,11 +1,13 @@
 // A dump by its description.
-use crate::judged::Judged;
-use crate::judged::accepted;
-use crate::judged::refused;
+use crate::judging::Judged;
+use crate::judging::accepted;
+use crate::judging::refused;
+use crate::judging::refused_by;
 use crate::kinds::Behind;
 use crate::kinds::Dump;
+use crate::kinds::MASTER;
+use crate::kinds::PATCH;
 use crate::kinds::Packed;
-use crate::kinds::size_of;
 use answers::DONE;
 use answers::NOT_ALLOWED;
 use answers::Outcome;
@@ -18,7 +20,7 @@ ghost use lib.ListN.{length, getD};
 ghost use Rattle.answers.specs.Effect.{tested};
 ghost use Rattle.frames.specs.Bytes.{framed};
 ghost use Rattle.nibbles.specs.Nibbles.{pack};
-ghost use Rattle.messages.specs.Kinds.{aPatch, ofDump, sizeOf};
+ghost use Rattle.messages.specs.Kinds.{aPatch, ofDump, sizeOf, Sized};
 ghost use Rattle.messages.specs.Judge.{kindVerdict, dataRows, packedRows, lentRows, misnumbered, numberIn};
 ghost use Rattle.messages.specs.Judged.{judged, Checked, sentIn, sumIn};
 
@@ -29,9 +31,8 @@ fn check_data(sent: &[u8], sum: u8, packed: &mut [u8]) -> Outcome
     ensures { λ r. ⌜ Checked (now (sent .entry)) sum (now (packed .exit)) r ⌝ }
 {
     let p = nibbles::pack_into(sent, packed);
-    let answer = p.answer;
-    if answer != DONE {
-        return answers::refused(answer, p.detail);
+    if p.answer != DONE {
+        return p;
     }
     if nibbles::checksum(packed) != sum {
         return answers::refused(WRONG_SUM, 0);
@@ -59,11 +60,10 @@ fn check_patch(sent: &[u8], sum: u8) -> Outcome
     requires { ⌜ length (now sent) ≡ 268 ⌝ }
     ensures { λ r. ⌜ r ≡ tested (dataRows (now (sent .entry)) sum ++ packedRows aPatch (pack (now (sent .entry)))) ⌝ }
 {
-    let mut packed = [0u8; 134];
+    let mut packed = [0u8; PATCH];
     let d = check_data(sent, sum, &mut packed);
-    let answer = d.answer;
-    if answer != DONE {
-        return answers::refused(answer, d.detail);
+    if d.answer != DONE {
+        return d;
     }
     patch::checks::test(&packed)
 }
@@ -85,7 +85,7 @@ fn check_packed(packed: Packed, content: &[u8]) -> Outcome
     match packed {
         Packed::Patch => check_patch(&content[4..272], content[272]),
         Packed::AnyBytes(count) => {
-            let mut room = [0u8; 172];
+            let mut room = [0u8; MASTER];
             let end = 4 + 2 * count;
             check_any(&content[4..end], content[end], count, &mut room)
         }
@@ -112,25 +112,23 @@ fn number_of(behind: Behind, byte: u8) -> u8
     }
 }
 
-// A dump: 7, then 8 to 12. No kind has more than 172 packed bytes.
+// A dump: 7, then 8 to 12. The caller has the kind from its opcode.
 pub(crate) fn judge_dump(kind: Dump, content: &[u8]) -> Judged
-    requires { ⌜ sizeOf (kind .packed) ≤ 172 ⌝ }
+    requires { ⌜ Sized (ofDump kind) ⌝ }
     ensures { λ r. ⌜ r ≡ judged (kindVerdict (ofDump kind) (framed (now (content .entry)))) ⌝ }
 {
-    let packed = kind.packed;
-    let size = size_of(packed);
-    if content.len() != 5 + 2 * size {
-        return refused(WRONG_LENGTH, 0);
+    if content.len() + 2 != kind.length {
+        return refused_by(WRONG_LENGTH);
     }
     let behind = kind.behind;
     let number = content[3];
     if wrong_number(behind, number) {
-        return refused(NOT_ALLOWED, 0);
+        return refused_by(NOT_ALLOWED);
     }
-    let t = check_packed(packed, content);
-    let answer = t.answer;
-    if answer != DONE {
-        return refused(answer, t.detail);
+    let packed = kind.packed;
+    let tested = check_packed(packed, content);
+    if tested.answer != DONE {
+        return refused(tested);
     }
-    accepted(kind.opcode, number_of(behind, number), 0, 0, 0)
+    accepted(kind.opcode, [number_of(behind, number), 0, 0, 0])
 }

@@ -1,27 +1,63 @@
 // What a complete message comes to, from its content: what stands between F0H and F7H, real time dropped.
-use crate::changes::judge_short;
 use crate::dumps::judge_dump;
-use crate::judged::Judged;
-use crate::judged::refused;
+use crate::kinds::DEVICE;
 use crate::kinds::Kind;
+use crate::kinds::MAKER;
 use crate::kinds::kind_of;
+use crate::shorts::judge_short;
 use answers::OTHER_DEVICE;
 use answers::OTHER_MAKER;
 use answers::OTHER_OPCODE;
+use answers::Outcome;
 ghost use mathlib.Core.Path.{_≡_};
+ghost use Rattle.answers.specs.Table.{outcome};
 ghost use Rattle.frames.specs.Bytes.{framed};
-ghost use Rattle.messages.specs.Judge.{judge, opcodeVerdict};
-ghost use Rattle.messages.specs.Judged.{judged};
+ghost use Rattle.messages.specs.Kinds.{kindOf};
+ghost use Rattle.messages.specs.Judge.{judge, kindVerdict};
+ghost use Rattle.messages.specs.Judged.{judged, judgedAs, refusedBy};
+
+// An outcome, and the bytes that come with it: a patch number, or an edit's two or four; zero where there are none.
+pub struct Judged {
+    pub outcome: Outcome,
+    pub bytes: [u8; 4],
+}
+
+// Refused: no bytes come with the answer.
+pub(crate) fn refused(outcome: Outcome) -> Judged
+    ensures { λ r. ⌜ r ≡ refusedBy outcome ⌝ }
+{
+    Judged {
+        outcome,
+        bytes: [0, 0, 0, 0],
+    }
+}
+
+// Refused by a number that has no detail.
+pub(crate) fn refused_by(answer: u8) -> Judged
+    ensures { λ r. ⌜ r ≡ refusedBy (outcome answer 0) ⌝ }
+{
+    refused(answers::refused(answer, 0))
+}
+
+// Accepted: the detail is the opcode.
+pub(crate) fn accepted(opcode: u8, bytes: [u8; 4]) -> Judged
+    ensures { λ r. ⌜ r ≡ judgedAs opcode bytes ⌝ }
+{
+    Judged {
+        outcome: answers::done(opcode as usize),
+        bytes,
+    }
+}
 
 // The kind by its opcode, 6 for any other.
 fn judge_kind(opcode: u8, content: &[u8]) -> Judged
-    ensures { λ r. ⌜ r ≡ judged (opcodeVerdict opcode (framed (now (content .entry)))) ⌝ }
+    ensures { λ r. ⌜ r ≡ judged (kindVerdict (kindOf opcode) (framed (now (content .entry)))) ⌝ }
 {
     let kind = kind_of(opcode as usize);
     match kind {
         Kind::Dump(dump) => judge_dump(dump, content),
         Kind::Short(short) => judge_short(short, content),
-        Kind::Unknown => refused(OTHER_OPCODE, 0),
+        Kind::Unknown => refused_by(OTHER_OPCODE),
     }
 }
 
@@ -30,19 +66,19 @@ pub fn judge_content(content: &[u8]) -> Judged
     ensures { λ r. ⌜ r ≡ judged (judge (framed (now (content .entry)))) ⌝ }
 {
     if content.len() < 1 {
-        return refused(OTHER_MAKER, 0);
+        return refused_by(OTHER_MAKER);
     }
-    if content[0] != 0x10 {
-        return refused(OTHER_MAKER, 0);
+    if content[0] != MAKER {
+        return refused_by(OTHER_MAKER);
     }
     if content.len() < 2 {
-        return refused(OTHER_DEVICE, 0);
+        return refused_by(OTHER_DEVICE);
     }
-    if content[1] != 0x06 {
-        return refused(OTHER_DEVICE, 0);
+    if content[1] != DEVICE {
+        return refused_by(OTHER_DEVICE);
     }
     if content.len() < 3 {
-        return refused(OTHER_OPCODE, 0);
+        return refused_by(OTHER_OPCODE);
     }
     judge_kind(content[2], content)
 }

@@ -1,6 +1,66 @@
-// The kinds of message that the desk files: what each is, and which an opcode finds.
+// The kinds of message that the desk files: opcode and length of each, what it is made of, and which kind an opcode finds.
 ghost use mathlib.Core.Path.{_≡_};
-ghost use Rattle.messages.specs.Kinds.{kindOf, sizeOf, packedSize};
+ghost use Rattle.messages.specs.Kinds.{kindOf, sizeOf, countOf, packedSize};
+
+// Every message of ours has these behind its F0H.
+pub const MAKER: u8 = 0x10;
+
+pub const DEVICE: u8 = 0x06;
+
+// Single patch: number, 268 nibbles, sum.
+pub struct SinglePatch;
+
+impl SinglePatch {
+    pub const OPCODE: u8 = 0x01;
+
+    pub const LENGTH: usize = 275;
+}
+
+// Master parameters: version, 344 nibbles, sum.
+pub struct MasterParameters;
+
+impl MasterParameters {
+    pub const OPCODE: u8 = 0x03;
+
+    pub const LENGTH: usize = 351;
+
+    pub const VERSION: u8 = 3;
+}
+
+// Remote edit: parameter, value.
+pub struct RemoteEdit;
+
+impl RemoteEdit {
+    pub const OPCODE: u8 = 0x06;
+
+    pub const LENGTH: usize = 7;
+}
+
+// Matrix modulation edit: bus, source, amount, destination.
+pub struct BusEdit;
+
+impl BusEdit {
+    pub const OPCODE: u8 = 0x0B;
+
+    pub const LENGTH: usize = 9;
+}
+
+// Single patch to the edit buffer: zero, 268 nibbles, sum.
+pub struct EditBuffer;
+
+impl EditBuffer {
+    pub const OPCODE: u8 = 0x0D;
+
+    pub const LENGTH: usize = 275;
+}
+
+// No message of ours is longer.
+pub const LONGEST: usize = MasterParameters::LENGTH;
+
+// The packed bytes of a patch and of a master.
+pub const PATCH: usize = 134;
+
+pub const MASTER: usize = 172;
 
 // The byte behind a dump's opcode: a number up to a greatest, which comes with the answer; or always the same byte, which does not.
 pub enum Behind {
@@ -14,21 +74,25 @@ pub enum Packed {
     AnyBytes(usize),
 }
 
+// A dump's kind.
 pub struct Dump {
     pub opcode: u8,
+    pub length: usize,
     pub behind: Behind,
     pub packed: Packed,
 }
 
-// The bytes of a short message: an edit's two, or a bus edit's four.
-pub enum Change {
+// The bytes behind a short message's opcode, with their own tests: an edit's two, or a bus edit's four.
+pub enum Operands {
     Edit,
     BusEdit,
 }
 
+// A short message's kind.
 pub struct Short {
     pub opcode: u8,
-    pub change: Change,
+    pub length: usize,
+    pub operands: Operands,
 }
 
 pub enum Kind {
@@ -38,29 +102,34 @@ pub enum Kind {
 }
 
 pub const SINGLE_PATCH: Dump = Dump {
-    opcode: 0x01,
+    opcode: SinglePatch::OPCODE,
+    length: SinglePatch::LENGTH,
     behind: Behind::NumberTo(99),
     packed: Packed::Patch,
 };
 
 pub const MASTER_PARAMETERS: Dump = Dump {
-    opcode: 0x03,
-    behind: Behind::Always(3),
-    packed: Packed::AnyBytes(172),
+    opcode: MasterParameters::OPCODE,
+    length: MasterParameters::LENGTH,
+    behind: Behind::Always(MasterParameters::VERSION),
+    packed: Packed::AnyBytes(MASTER),
 };
 
 pub const REMOTE_EDIT: Short = Short {
-    opcode: 0x06,
-    change: Change::Edit,
+    opcode: RemoteEdit::OPCODE,
+    length: RemoteEdit::LENGTH,
+    operands: Operands::Edit,
 };
 
 pub const BUS_EDIT: Short = Short {
-    opcode: 0x0B,
-    change: Change::BusEdit,
+    opcode: BusEdit::OPCODE,
+    length: BusEdit::LENGTH,
+    operands: Operands::BusEdit,
 };
 
 pub const EDIT_BUFFER: Dump = Dump {
-    opcode: 0x0D,
+    opcode: EditBuffer::OPCODE,
+    length: EditBuffer::LENGTH,
     behind: Behind::Always(0),
     packed: Packed::Patch,
 };
@@ -69,19 +138,19 @@ pub const EDIT_BUFFER: Dump = Dump {
 pub fn kind_of(opcode: usize) -> Kind
     ensures { λ r. ⌜ r ≡ kindOf opcode ⌝ }
 {
-    if opcode == 0x01 {
+    if opcode == SinglePatch::OPCODE as usize {
         return Kind::Dump(SINGLE_PATCH);
     }
-    if opcode == 0x03 {
+    if opcode == MasterParameters::OPCODE as usize {
         return Kind::Dump(MASTER_PARAMETERS);
     }
-    if opcode == 0x06 {
+    if opcode == RemoteEdit::OPCODE as usize {
         return Kind::Short(REMOTE_EDIT);
     }
-    if opcode == 0x0B {
+    if opcode == BusEdit::OPCODE as usize {
         return Kind::Short(BUS_EDIT);
     }
-    if opcode == 0x0D {
+    if opcode == EditBuffer::OPCODE as usize {
         return Kind::Dump(EDIT_BUFFER);
     }
     Kind::Unknown
@@ -92,8 +161,18 @@ pub fn size_of(packed: Packed) -> usize
     ensures { λ r. ⌜ r ≡ sizeOf packed ⌝ }
 {
     match packed {
-        Packed::Patch => 134,
+        Packed::Patch => PATCH,
         Packed::AnyBytes(count) => count,
+    }
+}
+
+// How many bytes a short message has behind its opcode.
+pub fn count_of(operands: Operands) -> usize
+    ensures { λ r. ⌜ r ≡ countOf operands ⌝ }
+{
+    match operands {
+        Operands::Edit => 2,
+        Operands::BusEdit => 4,
     }
 }
 

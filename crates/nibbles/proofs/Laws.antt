@@ -14,7 +14,7 @@ use lib.ListN.{length, take, drop, getD, length-drop, take-append-drop, drop-of-
 use lib.Seq.{drop-cons, take-suc, length-take-le}
 use borrow.Author.Tests.{ltb-true, ltb-false, lt-ltb, le-ltb, eq-eqb, ne-eqb}
 use Rattle.answers.specs.Lists.{All}
-use Rattle.answers.specs.Effect.{outcome}
+use Rattle.answers.specs.Table.{outcome}
 use Rattle.nibbles.specs.Nibbles.{nibbles, pack, total, sum, wideFrom, firstWide, packing, unpacking}
 use Rattle.nibbles.specs.Wide.{foundWide}
 use Rattle.nibbles.specs.declared.Wide.the-variants.{At, Nowhere}

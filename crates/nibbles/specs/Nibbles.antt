@@ -5,6 +5,7 @@ use mathlib.Core.Option.{Option, none, some}
 use Prim.Native.Nat.{ℕ, suc, _+_, _*_, _/_, _%_}
 use lib.Dec.{eqb, ltb}
 use lib.ListN.{length}
+use Rattle.answers.specs.declared.Outcome.{Outcome}
 use Rattle.answers.specs.Table.{row, rowAt}
 use Rattle.answers.specs.Effect.{Effect, written}
 
@@ -36,9 +37,9 @@ abbrev pub firstWide : List ℕ → Option ℕ
 firstWide = wideFrom 0
 
 -- Packing into a lent output: an odd number of nibbles is 7, a byte above 15 is 9.
-unfoldable pub packing : List ℕ → List ℕ → Effect
+unfoldable pub packing : List ℕ → List ℕ → Effect Outcome
 packing ns out = written (row 7 (eqb (length ns % 2) 1) ∷ rowAt 9 (firstWide ns) ∷ []) (pack ns) out
 
 -- Unpacking into a lent output.
-unfoldable pub unpacking : List ℕ → List ℕ → Effect
+unfoldable pub unpacking : List ℕ → List ℕ → Effect Outcome
 unpacking bytes out = written [] (nibbles bytes) out

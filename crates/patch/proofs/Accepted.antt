@@ -10,7 +10,8 @@ use native.Mathlib.Numerals.{add-one}
 use lib.Dec.{eqb}
 use lib.ListN.{length, getD, set}
 use borrow.Author.Tests.{eqb-true, eqb-false}
-use Rattle.answers.specs.Effect.{tested, outcome}
+use Rattle.answers.specs.Table.{outcome}
+use Rattle.answers.specs.Effect.{tested}
 use Rattle.answers.proofs.Rows.{tested-passed}
 use Rattle.patch.specs.Fields.{inRange}
 use Rattle.patch.specs.Patch.{outFrom, firstOut, halfUsed, halfFrom, patchRows}

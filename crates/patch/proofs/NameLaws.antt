@@ -9,10 +9,11 @@ use lib.Dec.{eqb, ltb}
 use lib.ListN.{length, getD, take, drop, length-map, length-append, length-drop, take-append-drop}
 use lib.Seq.{length-take-le, take-at, getD-append-add, getD-drop}
 use borrow.Author.Tests.{eq-eqb, lt-ltb, le-ltb, ltb-true, ltb-false}
-use Rattle.answers.specs.Table.{Row, row, done, first}
-use Rattle.answers.specs.Effect.{Effect, changed, outcome}
+use Rattle.answers.specs.declared.Outcome.{Outcome}
+use Rattle.answers.specs.Table.{Row, row, done, first, outcome, Silent}
+use Rattle.answers.specs.Effect.{Effect, changed}
 use Rattle.answers.specs.Lists.{All}
-use Rattle.answers.proofs.Rows.{Silent, first-passed, row-silent, row-equal}
+use Rattle.answers.proofs.Rows.{first-passed, row-silent, row-equal}
 use Rattle.answers.proofs.Effects.{changed-silent, written-fits, written-done}
 use Rattle.patch.specs.Patch.{outFrom, firstOut, halfFrom, firstHalf, fieldRows, patchRows}
 use Rattle.patch.specs.Names.{shown, stored, anyOutside, naming, showing}
@@ -207,7 +208,7 @@ shown-then-set p out e =
     let lp = patch-length p (a .0) in
     let f = fields-pass p (a .0 .1) in
     let eight = length-shown p lp in
-    let shows = ap (λ (x : Effect). x .lent) (written-fits (patchRows p) bytes out (a .0) (a .1)) in
+    let shows = ap (λ (x : Effect Outcome). x .lent) (written-fits (patchRows p) bytes out (a .0) (a .1)) in
     let silent : Silent (nameRows p bytes) =
     (rw (eq-eqb (length p) 134 lp), (rw (eq-eqb (length bytes) 8 eight), (rw (shown-inside p lp (f .0)), a .0 .1))) in
     rw (shows, take-at bytes (drop (length bytes) out) 8 eight, naming-done p bytes silent, shown-set p lp (f .0))

@@ -6,9 +6,9 @@ use Prim.Native.Nat.{ℕ}
 use native.Mathlib.Omega.{arith}
 use lib.ListN.{length}
 use borrow.Author.Tests.{eq-eqb}
-use Rattle.answers.specs.Table.{rowAt}
+use Rattle.answers.specs.Table.{rowAt, Silent}
 use Rattle.answers.specs.Effect.{tested}
-use Rattle.answers.proofs.Rows.{Silent, Refusals, row-at-silent, row-equal}
+use Rattle.answers.proofs.Rows.{Refusals, row-at-silent, row-equal}
 use Rattle.patch.specs.declared.checks.Failed.the-variants.{At as failed-at, Nowhere}
 use Rattle.patch.specs.declared.fields.BytePlace.{BytePlace}
 use Rattle.patch.specs.declared.fields.FoundPlace.{FoundPlace}

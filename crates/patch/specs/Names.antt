@@ -4,6 +4,7 @@ use mathlib.Core.List.{List, [], _∷_, _++_, map}
 use Prim.Native.Nat.{ℕ, _+_, _-_}
 use lib.Dec.{eqb, ltb}
 use lib.ListN.{length, take, drop}
+use Rattle.answers.specs.declared.Outcome.{Outcome}
 use Rattle.answers.specs.Table.{row, done, first}
 use Rattle.answers.specs.Effect.{Effect, changed, written}
 use Rattle.patch.specs.Patch.{fieldRows, patchRows}
@@ -22,11 +23,11 @@ anyOutside [] = false
 anyOutside (t ∷ ts) = (ltb t 32 || ltb 95 t) || anyOutside ts
 
 -- Setting a name in a lent patch: the patch's length, the text, then the patch's fields.
-unfoldable pub naming : List ℕ → List ℕ → Effect
+unfoldable pub naming : List ℕ → List ℕ → Effect Outcome
 naming p text =
     changed 0 (map stored text ++ drop 8 p) p
     (first (row 7 (not (eqb (length p) 134)) ∷ row 7 (not (eqb (length text) 8)) ∷ row 8 (anyOutside text) ∷ fieldRows p) (done 0 [] []))
 
 -- Showing a name into a lent output: the patch's tests, then 13.
-unfoldable pub showing : List ℕ → List ℕ → Effect
+unfoldable pub showing : List ℕ → List ℕ → Effect Outcome
 showing p out = written (patchRows p) (map shown (take 8 p)) out

@@ -1,24 +1,23 @@
 -- A record read into a lent buffer: by the answer that its message is given, and by the room there is.
 use mathlib.Core.Path.{_≡_, refl, sym, ap, _∙_}
-use mathlib.Core.List.{List, _++_}
+use mathlib.Core.List.{List, [], _++_}
 use Prim.Native.Nat.{ℕ, zero, suc, _+_, _*_, _/_, _≤_, _<_}
 use native.Mathlib.Omega.{arith}
 use lib.ListN.{length, take, drop, length-drop}
 use lib.Seq.{length-take-le}
 use borrow.Author.Tests.{le-leb, lt-leb}
-use Rattle.answers.specs.Table.{Verdict, done, refused, answerOf}
+use Rattle.answers.specs.Table.{Verdict, done, refused, outcome, answerOf, four}
 use Rattle.answers.specs.Effect.{Gives}
 use Rattle.answers.specs.declared.Outcome.{Outcome}
 use Rattle.frames.specs.Bytes.{framed}
-use Rattle.frames.specs.Stream.{readInto}
 use Rattle.nibbles.specs.Nibbles.{pack, packing}
 use Rattle.nibbles.proofs.Laws.{length-pack, packing-done}
 use Rattle.messages.specs.Kinds.{kindOf, packedSize}
 use Rattle.messages.specs.Judge.{judge}
 use Rattle.messages.specs.Judged.{judged}
-use Rattle.messages.specs.declared.judged.Judged.{Judged}
+use Rattle.messages.specs.declared.judging.Judged.{Judged}
 use Rattle.messages.proofs.Accepted.{Accepted, accepted}
-use Rattle.reading.specs.Read.{Reads, readingAs}
+use Rattle.reading.specs.Told.{readingAs, recorded}
 use Rattle.reading.specs.declared.recording.Reading.{Reading}
 
 -- The packed bytes of an accepted message.
@@ -26,33 +25,26 @@ abbrev pub packed : (c : List ℕ) → Accepted c → List ℕ
 packed c its = pack (take (2 * its .size) (drop 4 c))
 
 module _ (c : List ℕ) (j : Judged) (q : j ≡ judged (judge (framed c))) where
-  zero-answer : j .answer ≡ 0 → answerOf (judge (framed c)) ≡ 0
-  zero-answer z = by-verdict (judge (framed c)) q
-    where
-      by-verdict : (v : Verdict) → j ≡ judged v → answerOf v ≡ 0
-      by-verdict (done o b p) y = refl
-      by-verdict (refused a d) y = sym (ap (λ (x : Judged). x .answer) y) ∙ z
-
   -- Answer 0 is an accepted message.
-  pub read-accepted : j .answer ≡ 0 → Accepted c
-  read-accepted z = accepted c (zero-answer z)
+  pub read-accepted : j .outcome .answer ≡ 0 → Accepted c
+  read-accepted z = accepted c (sym (ap (λ (x : Judged). x .outcome .answer) q) ∙ z)
 
   -- Refused: the buffer keeps its bytes.
-  pub read-refused : (f e : ℕ) (lent : List ℕ) (r : Reading) → (j .answer ≡ 0 → ⊥) → r ≡ readingAs f e (j .answer) (j .detail) 0 0 0 0
-      → Reads (readInto f e (judge (framed c)) lent) r lent
+  pub read-refused : (f e : ℕ) (lent : List ℕ) (r : Reading) → (j .outcome .answer ≡ 0 → ⊥) → r ≡ readingAs f e (j .outcome) (four [])
+      → Gives (recorded f e (judge (framed c)) lent) r lent
   read-refused f e lent r n k = by-verdict (judge (framed c)) q
     where
-      by-verdict : (v : Verdict) → j ≡ judged v → Reads (readInto f e v lent) r lent
-      by-verdict (done o b p) z = absurd (n (ap (λ (x : Judged). x .answer) z))
-      by-verdict (refused a d) z = record { result = k ∙ rw z; lent = refl }
+      by-verdict : (v : Verdict) → j ≡ judged v → Gives (recorded f e v lent) r lent
+      by-verdict (done o b p) z = absurd (n (ap (λ (x : Judged). x .outcome .answer) z))
+      by-verdict (refused o) z = record { result = k ∙ rw z; lent = refl }
 
   module _ (its : Accepted c) where
     judged-its : j ≡ judged (done (its .opcode) (its .bytes) (packed c its))
     judged-its = q ∙ rw (its .verdict)
 
     -- The size that the opcode has is that of the record.
-    pub size-its : packedSize (kindOf (j .detail)) ≡ its .size
-    size-its = ap (λ (x : Judged). packedSize (kindOf (x .detail))) judged-its ∙ its .sized
+    pub size-its : packedSize (kindOf (j .outcome .detail)) ≡ its .size
+    size-its = ap (λ (x : Judged). packedSize (kindOf (x .outcome .detail))) judged-its ∙ its .sized
 
     sent-length : length (take (2 * its .size) (drop 4 c)) ≡ 2 * its .size
     sent-length = by-size (its .size) (its .fits)
@@ -67,13 +59,13 @@ module _ (c : List ℕ) (j : Judged) (q : j ≡ judged (judge (framed c))) where
     packed-length = omega (arith, length-pack (take (2 * its .size) (drop 4 c)), sent-length)
 
     -- Too short a buffer, and one with room.
-    pub read-short : (f e : ℕ) (lent : List ℕ) (r : Reading) → length lent < its .size → r ≡ readingAs f e 13 0 0 0 0 0
-        → Reads (readInto f e (judge (framed c)) lent) r lent
+    pub read-short : (f e : ℕ) (lent : List ℕ) (r : Reading) → length lent < its .size → r ≡ readingAs f e (outcome 13 0) (four [])
+        → Gives (recorded f e (judge (framed c)) lent) r lent
     read-short f e lent r h k =
         rw (its .verdict, lt-leb (length (packed c its)) (length lent) (omega (arith, packed-length))) (record { result = k; lent = refl })
 
     pub read-stored : (f e : ℕ) (lent : List ℕ) (r : Reading) (after : List ℕ) → its .size ≤ length lent → after ≡ packed c its ++ drop (its .size) lent
-        → r ≡ readingAs f e (j .answer) (j .detail) (j .first) (j .second) (j .third) (j .fourth) → Reads (readInto f e (judge (framed c)) lent) r after
+        → r ≡ readingAs f e (j .outcome) (j .bytes) → Gives (recorded f e (judge (framed c)) lent) r after
     read-stored f e lent r after h s k =
         rw (its .verdict, le-leb (length (packed c its)) (length lent) (omega (arith, packed-length)))
         (record { result = k ∙ rw judged-its; lent = s ∙ rw packed-length })

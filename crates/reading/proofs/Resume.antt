@@ -13,7 +13,7 @@ use Rattle.frames.specs.Scan.{outside, scan}
 use Rattle.frames.specs.Order.{InOrder}
 use Rattle.frames.proofs.Walk.{Walked, nothing, message, walked, reports-scan, scan-order}
 use Rattle.messages.specs.Judge.{judge}
-use Rattle.reading.specs.Listed.{endOf, made, Makes, reportsByCalls}
+use Rattle.reading.specs.Rooms.{width, endOf, most, made, Makes, reportsByCalls, CallsMakeReports}
 use Rattle.reading.specs.declared.listing.Listed.{Listed}
 use Rattle.reading.proofs.Rooms.{take-most, made-fits}
 
@@ -37,28 +37,28 @@ resume-take (suc n) s p = by-walk (walked judge (drop p s) p) (resume-take n s)
         rw rest (ap (λ (l : List Report). r ∷ l) behind)
 
 -- How many reports one call makes at most: at least one where the room has place for one.
-record Most (s : List ℕ) (p : ℕ) (room : List ℕ) : Type 0 where
-  most : ℕ
-  taken : made s p room ≡ take most (from s p)
-  some : 4 ≤ length room → 0 < most
+record AtMost (s : List ℕ) (p : ℕ) (room : List ℕ) : Type 0 where
+  number : ℕ
+  taken : made s p room ≡ take number (from s p)
+  some : width ≤ length room → 0 < number
 
-most-of : (s : List ℕ) (p : ℕ) (room : List ℕ) → Most s p room
+most-of : (s : List ℕ) (p : ℕ) (room : List ℕ) → AtMost s p room
 unfolding made
-most-of s p room = by-room (decLe 8 (length room / 4))
+most-of s p room = by-room (decLe most (length room / width))
   where
-    by-room : Dec (8 ≤ length room / 4) → Most s p room
-    by-room (yes h) = record { most = 8; taken = take-take 8 (length room / 4) (from s p) h; some = λ _. omega arith }
+    by-room : Dec (most ≤ length room / width) → AtMost s p room
+    by-room (yes h) = record { number = most; taken = take-take most (length room / width) (from s p) h; some = λ _. omega arith }
     by-room (no h) =
         record {
-          most = length room / 4;
-          taken = take-all 8 (take (length room / 4) (from s p)) (omega (arith, take-most (length room / 4) (from s p), h));
+          number = length room / width;
+          taken = take-all most (take (length room / width) (from s p)) (omega (arith, take-most (length room / width) (from s p), h));
           some = λ k. omega arith;
         }
 
 -- The reports from a place on are those that one call makes and then those from its end on.
 pub resume : (s : List ℕ) (p : ℕ) (room : List ℕ)
     → scan judge p outside (drop p s) ≡ made s p room ++ scan judge (endOf p (made s p room)) outside (drop (endOf p (made s p room)) s)
-resume s p room = let m = most-of s p room in rw (m .taken) (resume-take (m .most) s p)
+resume s p room = let m = most-of s p room in rw (m .taken) (resume-take (m .number) s p)
 
 -- Reports in order, the first n of them.
 order-take : (n : ℕ) (l : List Report) (p e : ℕ) → InOrder p e l → InOrder p e (take n l)
@@ -78,7 +78,7 @@ pub next-within : (s : List ℕ) (p : ℕ) (room : List ℕ) → p ≤ length s
 next-within s p room h =
     let m = most-of s p room in
     let whole : p + length (drop p s) ≡ length s = omega (arith, length-drop p s) in
-    rw (m .taken) (order-end (take (m .most) (from s p)) p (length s) h (order-take (m .most) (from s p) p (length s) (rw whole at (scan-order judge (drop p s) p))))
+    rw (m .taken) (order-end (take (m .number) (from s p)) p (length s) h (order-take (m .number) (from s p) p (length s) (rw whole at (scan-order judge (drop p s) p))))
 
 -- Past the input there is no report.
 none-past : (s : List ℕ) (p : ℕ) → length s ≤ p → from s p ≡ []
@@ -98,20 +98,20 @@ next-grows s p room n = by-place (decLe p (length s))
     by-place (no h) =
         let m = most-of s p room in
         let past : length s ≤ p = omega (arith, h) in
-        absurd (n (m .taken ∙ rw (none-past s p past) (take-nil (m .most))))
+        absurd (n (m .taken ∙ rw (none-past s p past) (take-nil (m .number))))
 
 -- With room for a report, a call makes none exactly when none is left.
-pub all-made : (s : List ℕ) (p : ℕ) (room : List ℕ) → 4 ≤ length room → (made s p room ≡ []) ↔ (scan judge p outside (drop p s) ≡ [])
+pub all-made : (s : List ℕ) (p : ℕ) (room : List ℕ) → width ≤ length room → (made s p room ≡ []) ↔ (scan judge p outside (drop p s) ≡ [])
 all-made s p room h =
     let m = most-of s p room in
-    ((λ e. by-number (m .most) (from s p) (m .some h) (sym (m .taken) ∙ e)), λ e. m .taken ∙ rw e (take-nil (m .most)))
+    ((λ e. by-number (m .number) (from s p) (m .some h) (sym (m .taken) ∙ e)), λ e. m .taken ∙ rw e (take-nil (m .number)))
   where
     by-number : (n : ℕ) (l : List Report) → 0 < n → take n l ≡ [] → l ≡ []
     by-number zero l k e = absurd (omega arith)
     by-number (suc n) [] k e = refl
     by-number (suc n) (r ∷ l) k e = cc
 
-module _ (s room : List ℕ) (h : 4 ≤ length room) where
+module _ (s room : List ℕ) (h : width ≤ length room) where
   -- Where no report is left, no call makes one.
   calls-none : (n p : ℕ) → scan judge p outside (drop p s) ≡ [] → reportsByCalls n s p room ≡ []
   unfolding endOf
@@ -130,27 +130,27 @@ module _ (s room : List ℕ) (h : 4 ≤ length room) where
           let grows = next-grows s p room (λ z. let c : _≡_ {A = List Report} (r ∷ l) [] = sym e ∙ z in let x : _≡_ {A = ℕ} 0 1 = cc in omega arith) in
           ap (λ (w : List Report). made s p room ++ w) (i (endOf p (made s p room)) (omega arith)) ∙ sym (resume s p room)
 
-  -- Calls from 0 on, each from the end of the last, make the reports of the stream.
-  pub calls-reports : (n : ℕ) → length s ≤ n → reportsByCalls n s 0 room ≡ reports judge s
-  calls-reports n k = calls-scan n 0 (omega arith) ∙ sym (reports-scan judge s)
+-- Calls from 0 on, each from the end of the last, make the reports of the stream.
+pub calls-reports : CallsMakeReports
+calls-reports s room h n k = calls-scan s room h n 0 (omega arith) ∙ sym (reports-scan judge s)
 
 -- What a caller knows of a call from a place of the input: it goes on a byte or more for each report, within the input; the reports fit
 -- the room; those left are left from its end on; and with room for one, a call that makes none leaves none.
 pub record Goes (s : List ℕ) (p : ℕ) (room : List ℕ) (r : Listed) : Type 0 where
   pub further : p + r .count ≤ r .next
   pub within : r .next ≤ length s
-  pub fits : 4 * r .count ≤ length room
+  pub fits : width * r .count ≤ length room
   pub left : length (scan judge p outside (drop p s)) ≡ r .count + length (scan judge (r .next) outside (drop (r .next) s))
-  pub last : 4 ≤ length room → r .count ≡ 0 → length (scan judge p outside (drop p s)) ≡ 0
+  pub last : width ≤ length room → r .count ≡ 0 → length (scan judge p outside (drop p s)) ≡ 0
 
 pub goes : (s : List ℕ) (p : ℕ) (old new : List ℕ) (r : Listed) → p ≤ length s → Makes s p old new r → Goes s p old r
 goes s p old new r h m =
     let w = next-within s p old h in
-    let c = m .fills .count in
+    let c = m .holds .count in
     record {
       further = rw (c, m .next) (w .0);
       within = rw (m .next) (w .1);
-      fits = made-fits s p old new (r .count) (m .fills);
+      fits = made-fits s p old new (r .count) (m .holds);
       left = rw (c, m .next) (ap length (resume s p old) ∙ simp length-append);
       last = λ k z. rw (all-made s p old k .0 (no-length (made s p old) (sym c ∙ z))) refl;
     }

@@ -5,28 +5,19 @@ use Prim.Native.Nat.{ℕ, suc, _+_, _≤_, _<_}
 use native.Mathlib.Omega.{arith}
 use lib.ListN.{length, take, drop, length-drop}
 use lib.Seq.{length-take-le}
-use Rattle.answers.specs.Table.{Verdict, done, refused, answerOf, detailOf}
+use Rattle.answers.specs.Table.{outcome, four}
+use Rattle.answers.specs.Effect.{Gives}
 use Rattle.frames.specs.Bytes.{body, withoutRealTime, realTimeIn, framed}
 use Rattle.frames.specs.Extent.{spanOf, endingOf}
-use Rattle.frames.specs.Stream.{messageAt, readInto}
+use Rattle.frames.specs.Stream.{messageAt}
 use Rattle.frames.specs.declared.Span.{Span}
 use Rattle.frames.proofs.Bytes.{body-within, body-take}
 use Rattle.frames.proofs.Found.{message-refused, message-complete}
 use Rattle.messages.specs.Judge.{judge}
 use Rattle.messages.specs.Judged.{judged}
-use Rattle.messages.specs.declared.judged.Judged.{Judged}
-use Rattle.reading.specs.Walk.{numbersOf}
-use Rattle.reading.specs.Read.{Reads, readingAs, readMessage}
+use Rattle.messages.specs.declared.judging.Judged.{Judged}
+use Rattle.reading.specs.Told.{reportAs, reportOf, readingAs, recorded, readMessage}
 use Rattle.reading.specs.declared.recording.Reading.{Reading}
-use Rattle.reading.specs.declared.walking.Report.{Report}
-
-judged-answer : (v : Verdict) → judged v .answer ≡ answerOf v
-judged-answer (done o b p) = refl
-judged-answer (refused n d) = refl
-
-judged-detail : (v : Verdict) → judged v .detail ≡ detailOf v
-judged-detail (done o b p) = refl
-judged-detail (refused n d) = refl
 
 module _ (t : List ℕ) (s : Span) (e : s ≡ spanOf t) where
   pub span-length : s .length ≡ length (body t)
@@ -59,17 +50,17 @@ module _ (t : List ℕ) (s : Span) (e : s ≡ spanOf t) where
 
   -- A message that is cut or interrupted, and one that is complete.
   pub report-ended : (f : ℕ) → (s .ending ≡ 0 → ⊥)
-      → _≡_ {A = Report} (record { start = f; end = f + 1 + s .length; answer = s .ending; detail = 0 }) (numbersOf (messageAt judge f t))
+      → reportAs f (f + 1 + s .length) (outcome (s .ending) 0) ≡ reportOf (messageAt judge f t)
   report-ended f n =
       rw (message-refused judge f t (λ z. n (span-ending ∙ z)), span-ending, place-behind f)
 
   pub report-judged : (f : ℕ) (j : Judged) → s .ending ≡ 0 → j ≡ judged (judge (framed (withoutRealTime (take (s .length) t))))
-      → _≡_ {A = Report} (record { start = f; end = f + 1 + s .length + 1; answer = j .answer; detail = j .detail }) (numbersOf (messageAt judge f t))
+      → reportAs f (f + 1 + s .length + 1) (j .outcome) ≡ reportOf (messageAt judge f t)
   report-judged f j z q =
       let v = judge (framed (withoutRealTime (body t))) in
       let j′ : j ≡ judged v = q ∙ rw span-body in
       let end : suc (suc f + length (body t)) ≡ f + 1 + s .length + 1 = omega (arith, span-length) in
-      rw (message-complete judge f t (sym span-ending ∙ z), end, j′, judged-answer v, judged-detail v)
+      rw (message-complete judge f t (sym span-ending ∙ z), end, j′)
 
   -- A complete message has a byte behind its body.
   pub span-closed : s .ending ≡ 0 → s .length < length t
@@ -80,14 +71,14 @@ module _ (t : List ℕ) (s : Span) (e : s ≡ spanOf t) where
       by-rest (x ∷ r) q k = omega (arith, span-length, ap length q, length-drop (length (body t)) t)
 
   -- The same read into a lent buffer.
-  pub read-ended : (f : ℕ) (lent : List ℕ) (r : Reading) → (s .ending ≡ 0 → ⊥) → r ≡ readingAs f (f + 1 + s .length) (s .ending) 0 0 0 0 0
-      → Reads (readMessage f t lent) r lent
+  pub read-ended : (f : ℕ) (lent : List ℕ) (r : Reading) → (s .ending ≡ 0 → ⊥) → r ≡ readingAs f (f + 1 + s .length) (outcome (s .ending) 0) (four [])
+      → Gives (readMessage f t lent) r lent
   read-ended f lent r n k =
       rw (message-refused judge f t (λ z. n (span-ending ∙ z))) (record { result = k ∙ rw (span-ending, place-behind f); lent = refl })
 
   pub read-complete : (f : ℕ) (lent : List ℕ) (r : Reading) (after : List ℕ) → s .ending ≡ 0
-      → Reads (readInto f (f + 1 + s .length + 1) (judge (framed (withoutRealTime (take (s .length) t)))) lent) r after
-      → Reads (readMessage f t lent) r after
+      → Gives (recorded f (f + 1 + s .length + 1) (judge (framed (withoutRealTime (take (s .length) t)))) lent) r after
+      → Gives (readMessage f t lent) r after
   read-complete f lent r after z g =
       let end : suc (suc f + length (body t)) ≡ f + 1 + s .length + 1 = omega (arith, span-length) in
       rw (message-complete judge f t (sym span-ending ∙ z), end) (rw span-body at g)

@@ -1,3 +1,2 @@
-pub mod Walk
-pub mod Read
-pub mod Listed
+pub mod Told
+pub mod Rooms

@@ -7,31 +7,41 @@ ghost use Prim.Native.Nat.{suc, _+_, _^_, _<_, _≤_};
 ghost use lib.ListN.{length, drop};
 ghost use Rattle.frames.specs.Scan.{outside, inside, scan};
 ghost use Rattle.messages.specs.Judge.{judge};
-ghost use Rattle.reading.specs.Listed.{Lists, Fills, Makes};
+ghost use Rattle.reading.specs.Rooms.{width, fitting, made, Holds, Makes};
 
 // How many reports were made, and the place from which to go on.
+#[repr(C)]
 pub struct Listed {
     pub count: usize,
     pub next: usize,
 }
 
-// A report's four numbers. The callers below have seen that they fit.
+// How many numbers a report has.
+pub const WIDTH: usize = 4;
+
+// One call makes at most so many reports, which bounds how many calls of the two states are under way.
+pub const MOST: usize = 8;
+
+// The room for them.
+const ROOM: usize = MOST * WIDTH;
+
+// A report's numbers. The callers below have seen that they fit.
 fn put_report(r: Report, room: &mut [usize])
-    requires { ⌜ 4 ≤ length (now room) ⌝ }
-    ensures { λ _. ⌜ now (room .exit) ≡ (r .start ∷ r .end ∷ r .answer ∷ r .detail ∷ []) ++ drop 4 (now (room .entry)) ⌝ }
+    requires { ⌜ width ≤ length (now room) ⌝ }
+    ensures { λ _. ⌜ now (room .exit) ≡ (r .start ∷ r .end ∷ r .outcome .answer ∷ r .outcome .detail ∷ []) ++ drop width (now (room .entry)) ⌝ }
 {
     room[0] = r.start;
     room[1] = r.end;
-    room[2] = r.answer as usize;
-    room[3] = r.detail;
+    room[2] = r.outcome.answer as usize;
+    room[3] = r.outcome.detail;
 }
 
 // Outside a message: on to the next F0H, if there is room for one more report.
 fn list_outside(rest: &[u8], place: usize, room: &mut [usize]) -> usize
     requires { ⌜ place + length (now rest) < 2 ^ 64 ⌝ }
-    ensures { λ r. ⌜ Lists (scan judge place outside (now (rest .entry))) (now (room .entry)) (now (room .exit)) r ⌝ }
+    ensures { λ r. ⌜ Holds (fitting (now (room .entry)) (scan judge place outside (now (rest .entry)))) (now (room .entry)) (now (room .exit)) r ⌝ }
 {
-    if room.len() < 4 {
+    if room.len() < WIDTH {
         return 0;
     }
     let i = frames::find_start(rest);
@@ -44,9 +54,9 @@ fn list_outside(rest: &[u8], place: usize, room: &mut [usize]) -> usize
 // Inside the message whose F0H stands at `start`: its report, then on behind the byte that ended it, which may be an F0H.
 fn list_inside(rest: &[u8], start: usize, room: &mut [usize]) -> usize
     requires { ⌜ start + 1 + length (now rest) < 2 ^ 64 ⌝ }
-    ensures { λ r. ⌜ Lists (scan judge (suc start) (inside start []) (now (rest .entry))) (now (room .entry)) (now (room .exit)) r ⌝ }
+    ensures { λ r. ⌜ Holds (fitting (now (room .entry)) (scan judge (suc start) (inside start []) (now (rest .entry)))) (now (room .entry)) (now (room .exit)) r ⌝ }
 {
-    if room.len() < 4 {
+    if room.len() < WIDTH {
         return 0;
     }
     let span = frames::find_end(rest);
@@ -57,24 +67,23 @@ fn list_inside(rest: &[u8], start: usize, room: &mut [usize]) -> usize
     }
     let place = start + 1 + n;
     if rest[n] == 0xF0 {
-        return 1 + list_inside(&rest[n + 1..], place, &mut room[4..]);
+        return 1 + list_inside(&rest[n + 1..], place, &mut room[WIDTH..]);
     }
-    1 + list_outside(&rest[n + 1..], place + 1, &mut room[4..])
+    1 + list_outside(&rest[n + 1..], place + 1, &mut room[WIDTH..])
 }
 
 // The reports from a place of the input on, as many as fit, at most 8. The caller below has seen that the place is one of the input.
 fn list_some(s: &[u8], place: usize, room: &mut [usize]) -> usize
     requires { ⌜ place ≤ length (now s) ⌝ }
-    ensures { λ r. ⌜ Fills (now (s .entry)) place (now (room .entry)) (now (room .exit)) r ⌝ }
+    ensures { λ r. ⌜ Holds (made (now (s .entry)) place (now (room .entry))) (now (room .entry)) (now (room .exit)) r ⌝ }
 {
-    if 32 < room.len() {
-        return list_outside(&s[place..], place, &mut room[..32]);
+    if ROOM < room.len() {
+        return list_outside(&s[place..], place, &mut room[..ROOM]);
     }
     list_outside(&s[place..], place, room)
 }
 
-// The reports from a place on, four numbers each, at the start of the lent room: as many as fit, at most 8 a call, which bounds
-// how many calls of the two states are under way.
+// The reports from a place on, their numbers one after the other at the start of the lent room: as many as fit, at most MOST a call.
 pub fn reports(s: &[u8], place: usize, room: &mut [usize]) -> Listed
     ensures { λ r. ⌜ Makes (now (s .entry)) place (now (room .entry)) (now (room .exit)) r ⌝ }
 {
@@ -91,7 +100,7 @@ pub fn reports(s: &[u8], place: usize, room: &mut [usize]) -> Listed
             next: place,
         };
     }
-    let last = 4 * count - 3;
+    let last = WIDTH * count - (WIDTH - 1);
     Listed {
         count,
         next: room[last],

@@ -1,104 +1,98 @@
 // Reading a record into a lent buffer.
+use crate::walking::ROOM;
+use crate::walking::Report;
+use crate::walking::keep;
 use answers::DONE;
 use answers::NO_MESSAGE;
 use answers::NO_ROOM;
+use answers::Outcome;
 use frames::Span;
 use messages::judging::judge_content;
 use messages::kinds::kind_of;
 use messages::kinds::packed_size;
 ghost use mathlib.Core.Path.{_≡_};
+ghost use mathlib.Core.List.{[]};
 ghost use Prim.Native.Nat.{_+_, _^_, _<_};
 ghost use lib.ListN.{length};
+ghost use Rattle.answers.specs.Effect.{Gives};
+ghost use Rattle.answers.specs.Table.{four};
 ghost use Rattle.frames.specs.Bytes.{framed, withoutRealTime, realTimeIn};
 ghost use Rattle.frames.specs.Extent.{spanOf};
-ghost use Rattle.frames.specs.Stream.{readInto, read};
 ghost use Rattle.messages.specs.Judge.{judge};
-ghost use Rattle.reading.specs.Read.{Reads, readingAs, readMessage};
+ghost use Rattle.reading.specs.Told.{readingAs, recorded, readMessage, reads};
 
-// Where a message starts and ends, its answer and detail, and the bytes that come with the answer: a patch number, or an
-// edit's two or four, as received; zero where the message has none and with every answer but 0.
+// A report, and the bytes that come with its answer: a patch number, or an edit's two or four, as received; zero where the message
+// has none and with every answer but 0.
+#[repr(C)]
 pub struct Reading {
-    pub start: usize,
-    pub end: usize,
-    pub answer: u8,
-    pub detail: usize,
-    pub first: u8,
-    pub second: u8,
-    pub third: u8,
-    pub fourth: u8,
+    pub report: Report,
+    pub bytes: [u8; 4],
 }
 
-// An answer with no bytes.
-fn refused(start: usize, end: usize, answer: u8, detail: usize) -> Reading
-    ensures { λ r. ⌜ r ≡ readingAs start end answer detail 0 0 0 0 ⌝ }
+// An outcome with no bytes.
+fn bare(start: usize, end: usize, outcome: Outcome) -> Reading
+    ensures { λ r. ⌜ r ≡ readingAs start end outcome (four []) ⌝ }
 {
     Reading {
-        start,
-        end,
-        answer,
-        detail,
-        first: 0,
-        second: 0,
-        third: 0,
-        fourth: 0,
+        report: Report {
+            start,
+            end,
+            outcome,
+        },
+        bytes: [0, 0, 0, 0],
     }
 }
 
 // The message from `start` to `end` with this content, its packed bytes into the buffer: as judged, then 13.
 fn read_content(content: &[u8], start: usize, end: usize, buffer: &mut [u8]) -> Reading
-    ensures { λ r. ⌜ Reads (readInto start end (judge (framed (now (content .entry)))) (now (buffer .entry))) r (now (buffer .exit)) ⌝ }
+    ensures { λ r. ⌜ Gives (recorded start end (judge (framed (now (content .entry)))) (now (buffer .entry))) r (now (buffer .exit)) ⌝ }
 {
     let j = judge_content(content);
-    let answer = j.answer;
-    let detail = j.detail;
-    if answer != DONE {
-        return refused(start, end, answer, detail);
+    let outcome = j.outcome;
+    let bytes = j.bytes;
+    if outcome.answer != DONE {
+        return bare(start, end, outcome);
     }
-    let size = packed_size(kind_of(detail));
+    let size = packed_size(kind_of(outcome.detail));
     if buffer.len() < size {
-        return refused(start, end, NO_ROOM, 0);
+        return bare(start, end, answers::refused(NO_ROOM, 0));
     }
     if 0 < size {
         nibbles::pack_into(&content[4..4 + 2 * size], buffer);
     }
     Reading {
-        start,
-        end,
-        answer,
-        detail,
-        first: j.first,
-        second: j.second,
-        third: j.third,
-        fourth: j.fourth,
+        report: Report {
+            start,
+            end,
+            outcome,
+        },
+        bytes,
     }
 }
 
 // The same from what stands between F0H and F7H. The caller has counted the real time in it.
 fn read_body(body: &[u8], noise: usize, start: usize, end: usize, buffer: &mut [u8]) -> Reading
     requires { ⌜ noise ≡ realTimeIn (now body) ⌝ }
-    ensures { λ r. ⌜ Reads (readInto start end (judge (framed (withoutRealTime (now (body .entry))))) (now (buffer .entry))) r (now (buffer .exit)) ⌝ }
+    ensures { λ r. ⌜ Gives (recorded start end (judge (framed (withoutRealTime (now (body .entry))))) (now (buffer .entry))) r (now (buffer .exit)) ⌝ }
 {
     if noise == 0 {
         return read_content(body, start, end, buffer);
     }
-    let mut room = [0u8; 350];
-    let n = frames::drop_real_time(body, &mut room);
-    if n < 350 {
-        return read_content(&room[..n], start, end, buffer);
-    }
-    read_content(&room, start, end, buffer)
+    let mut room = [0u8; ROOM];
+    let n = keep(body, &mut room);
+    read_content(&room[..n], start, end, buffer)
 }
 
 // The record of the message whose F0H stands at `start`, before `rest`. The caller has found its end.
 fn read_at(rest: &[u8], start: usize, span: Span, buffer: &mut [u8]) -> Reading
     requires { ⌜ (start + 1 + length (now rest) < 2 ^ 64) × (span ≡ spanOf (now rest)) ⌝ }
-    ensures { λ r. ⌜ Reads (readMessage start (now (rest .entry)) (now (buffer .entry))) r (now (buffer .exit)) ⌝ }
+    ensures { λ r. ⌜ Gives (readMessage start (now (rest .entry)) (now (buffer .entry))) r (now (buffer .exit)) ⌝ }
 {
     let n = span.length;
     let end = start + 1 + n;
     let ending = span.ending;
     if ending != DONE {
-        return refused(start, end, ending, 0);
+        return bare(start, end, answers::refused(ending, 0));
     }
     read_body(&rest[..n], span.noise, start, end + 1, buffer)
 }
@@ -106,12 +100,12 @@ fn read_at(rest: &[u8], start: usize, span: Span, buffer: &mut [u8]) -> Reading
 // Reading a record: as the walk, then 13. A dump's packed bytes stand at the buffer's start; every other byte of it is kept,
 // and all of them when refused.
 pub fn read(s: &[u8], place: usize, buffer: &mut [u8]) -> Reading
-    ensures { λ r. ⌜ Reads (read judge (now (s .entry)) place (now (buffer .entry))) r (now (buffer .exit)) ⌝ }
+    ensures { λ r. ⌜ Gives (reads (now (s .entry)) place (now (buffer .entry))) r (now (buffer .exit)) ⌝ }
 {
     let start = frames::find_start_from(s, place);
     if s.len() <= start {
         let n = s.len();
-        return refused(n, n, NO_MESSAGE, 0);
+        return bare(n, n, answers::refused(NO_MESSAGE, 0));
     }
     let rest = &s[start + 1..];
     read_at(rest, start, frames::find_end(rest), buffer)

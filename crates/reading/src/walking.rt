@@ -1,9 +1,11 @@
 // The walk: the first message that starts at a place or later.
 use answers::DONE;
 use answers::NO_MESSAGE;
+use answers::Outcome;
 use frames::Span;
-use messages::judged::Judged;
+use messages::judging::Judged;
 use messages::judging::judge_content;
+use messages::kinds::LONGEST;
 ghost use mathlib.Core.Path.{_≡_};
 ghost use Prim.Native.Nat.{_+_, _^_, _<_};
 ghost use lib.ListN.{length};
@@ -12,14 +14,28 @@ ghost use Rattle.frames.specs.Extent.{spanOf};
 ghost use Rattle.frames.specs.Stream.{messageAt};
 ghost use Rattle.messages.specs.Judge.{judge};
 ghost use Rattle.messages.specs.Judged.{judged};
-ghost use Rattle.reading.specs.Walk.{numbersOf, walked};
+ghost use Rattle.reading.specs.Told.{Front, reportOf, walked};
 
-// Where a message starts and ends, its answer and its detail.
+// Where a message starts and ends, and its outcome.
+#[repr(C)]
 pub struct Report {
     pub start: usize,
     pub end: usize,
-    pub answer: u8,
-    pub detail: usize,
+    pub outcome: Outcome,
+}
+
+// Room for one byte more than the longest message has between F0H and F7H: a longer one shows as longer.
+pub(crate) const ROOM: usize = LONGEST - 1;
+
+// The bytes of a body that are not real time, at the start of a room; answers how many of them the room has.
+pub(crate) fn keep(body: &[u8], room: &mut [u8]) -> usize
+    ensures { λ r. ⌜ Front (withoutRealTime (now (body .entry))) (now (room .entry)) (now (room .exit)) r ⌝ }
+{
+    let n = frames::drop_real_time(body, room);
+    if n < room.len() {
+        return n;
+    }
+    room.len()
 }
 
 // What a complete message comes to, from what stands between F0H and F7H. The callers have counted the real time in it.
@@ -30,19 +46,15 @@ fn judge_body(body: &[u8], noise: usize) -> Judged
     if noise == 0 {
         return judge_content(body);
     }
-    // One byte more than the longest message has between F0H and F7H: a longer one shows as longer.
-    let mut room = [0u8; 350];
-    let n = frames::drop_real_time(body, &mut room);
-    if n < 350 {
-        return judge_content(&room[..n]);
-    }
-    judge_content(&room)
+    let mut room = [0u8; ROOM];
+    let n = keep(body, &mut room);
+    judge_content(&room[..n])
 }
 
 // The report of the message whose F0H stands at `start`, before `rest`. The callers below have found its end.
 pub(crate) fn report_at(rest: &[u8], start: usize, span: Span) -> Report
     requires { ⌜ (start + 1 + length (now rest) < 2 ^ 64) × (span ≡ spanOf (now rest)) ⌝ }
-    ensures { λ r. ⌜ r ≡ numbersOf (messageAt judge start (now (rest .entry))) ⌝ }
+    ensures { λ r. ⌜ r ≡ reportOf (messageAt judge start (now (rest .entry))) ⌝ }
 {
     let n = span.length;
     let end = start + 1 + n;
@@ -51,20 +63,19 @@ pub(crate) fn report_at(rest: &[u8], start: usize, span: Span) -> Report
         return Report {
             start,
             end,
-            answer: ending,
-            detail: 0,
+            outcome: answers::refused(ending, 0),
         };
     }
     let j = judge_body(&rest[..n], span.noise);
+    let outcome = j.outcome;
     Report {
         start,
         end: end + 1,
-        answer: j.answer,
-        detail: j.detail,
+        outcome,
     }
 }
 
-// The walk: start, end, answer and detail of the first message that starts at `place` or later; 1 where there is none.
+// The walk: start, end and outcome of the first message that starts at `place` or later; 1 where there is none.
 pub fn walk(s: &[u8], place: usize) -> Report
     ensures { λ r. ⌜ r ≡ walked (now (s .entry)) place ⌝ }
 {
@@ -74,8 +85,7 @@ pub fn walk(s: &[u8], place: usize) -> Report
         return Report {
             start: n,
             end: n,
-            answer: NO_MESSAGE,
-            detail: 0,
+            outcome: answers::refused(NO_MESSAGE, 0),
         };
     }
     let rest = &s[start + 1..];

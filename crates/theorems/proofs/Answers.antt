@@ -10,11 +10,10 @@ use native.Mathlib.Omega.{arith}
 use lib.Dec.{eqb, leb, ltb}
 use lib.ListN.{length, drop}
 use borrow.Author.Tests.{eqb-true, leb-true, leb-false, le-ltb, lt-ltb}
-use Rattle.answers.specs.Table.{Row, row, rowAt, Verdict, done, refused, first, answerOf, detailOf}
-use Rattle.answers.specs.Effect.{outcome}
+use Rattle.answers.specs.Table.{Row, row, rowAt, Verdict, done, refused, first, answerOf, detailOf, outcome, Silent, FirstSays}
 use Rattle.answers.specs.declared.Outcome.{Outcome}
 use Rattle.answers.proofs.Lists.{all-append}
-use Rattle.answers.proofs.Rows.{Silent, FirstSays, Refusals, first-append, first-passed, refused-exactly, zero-silent}
+use Rattle.answers.proofs.Rows.{Refusals, first-append, first-passed, refused-exactly, zero-silent}
 use Rattle.frames.specs.Bytes.{body}
 use Rattle.frames.specs.Stream.{readInto, readReport, messageAt, firstFrom, walk, read}
 use Rattle.messages.specs.Kinds.{kindOf}

@@ -11,8 +11,8 @@ use lib.Dec.{eqb, ltb}
 use lib.ListN.{length, take, drop}
 use lib.Seq.{take-append-seam, drop-drop}
 use borrow.Author.Tests.{eq-eqb, eqb-true, le-ltb, ltb-false}
-use Rattle.answers.specs.Table.{Verdict, done, refused, first}
-use Rattle.answers.proofs.Rows.{Silent, done-passed}
+use Rattle.answers.specs.Table.{Verdict, done, refused, first, Silent}
+use Rattle.answers.proofs.Rows.{done-passed}
 use Rattle.frames.specs.Stream.{report}
 use Rattle.frames.specs.Scan.{outside, scan}
 use Rattle.frames.proofs.Walk.{reports-scan}

@@ -2,8 +2,8 @@
 use mathlib.Core.Path.{_≡_, refl}
 use mathlib.Core.List.{[], _∷_}
 use native.Mathlib.Omega.{arith}
-use Rattle.answers.specs.Table.{done, refused}
-use Rattle.answers.specs.Effect.{outcome, tested}
+use Rattle.answers.specs.Table.{done, refused, outcome}
+use Rattle.answers.specs.Effect.{tested}
 use Rattle.frames.specs.Bytes.{kindOf, body, withoutRealTime}
 use Rattle.frames.specs.Stream.{report, messageAt, firstFrom, walk, reports}
 use Rattle.patch.specs.Fields.{fields, between, inRange, searchFrom, placeOf}

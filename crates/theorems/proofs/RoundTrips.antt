@@ -9,11 +9,11 @@ use lib.Dec.{eqb, leb}
 use lib.ListN.{length, take, drop, getD, length-append}
 use lib.Seq.{take-append-seam}
 use borrow.Author.Tests.{le-leb, eq-eqb, eqb-true, not-false, ltb-false}
+use Rattle.answers.specs.declared.Outcome.{Outcome}
 use Rattle.answers.specs.Lists.{All}
-use Rattle.answers.specs.Table.{Verdict, done, refused, answerOf}
+use Rattle.answers.specs.Table.{Verdict, done, refused, answerOf, Silent}
 use Rattle.answers.specs.Effect.{Effect}
 use Rattle.answers.proofs.Lists.{all-weaken}
-use Rattle.answers.proofs.Rows.{Silent}
 use Rattle.frames.specs.Bytes.{framed}
 use Rattle.frames.specs.Stream.{Report, report, readInto, readReport, walk, reports, read}
 use Rattle.frames.proofs.Walk.{reread}
@@ -54,7 +54,7 @@ written-read-back w out ours bytes e before behind =
     let t = taken w out e in
     let s = sound w ours bytes (t .0) in
     let message : sent w out ≡ messageFor w =
-    ap (λ (x : Effect). take (x .result .detail) (x .lent)) (takes w out (t .0) (t .1)) ∙ take-append-seam (messageFor w) (drop (length (messageFor w)) out) in
+    ap (λ (x : Effect Outcome). take (x .result .detail) (x .lent)) (takes w out (t .0) (t .1)) ∙ take-append-seam (messageFor w) (drop (length (messageFor w)) out) in
     let found =
     sound-holds (λ m v. walk judge (stream before m behind) (length before) ≡ some (report (length before) (length before + length m) v))
     (λ c a. walk-framed judge before c behind (data-bytes c a)) w s in

@@ -5,10 +5,11 @@ use mathlib.Core.List.{List, _∷_}
 use Prim.Native.Nat.{ℕ, _≤_, _<_}
 use native.Mathlib.Omega.{arith}
 use lib.ListN.{length}
+use Rattle.answers.specs.declared.Outcome.{Outcome}
 use Rattle.answers.specs.Lists.{All}
-use Rattle.answers.specs.Table.{Row, Verdict}
+use Rattle.answers.specs.Table.{Row, Verdict, Silent}
 use Rattle.answers.specs.Effect.{Effect, written}
-use Rattle.answers.proofs.Rows.{Silent, Refusals, row-equal, row-at-silent}
+use Rattle.answers.proofs.Rows.{Refusals, row-equal, row-at-silent}
 use Rattle.answers.proofs.Effects.{written-done, written-fits}
 use Rattle.frames.specs.Bytes.{framed}
 use Rattle.patch.specs.Patch.{firstOut}
@@ -46,7 +47,7 @@ takes w out a h = by-rows w out ∙ written-fits (rowsFor w) (messageFor w) out 
 -- Where it was written, they said nothing and it fitted.
 pub taken : (w : Written) (out : List ℕ) → writing w out .result .answer ≡ 0 → Silent (rowsFor w) × (length (messageFor w) ≤ length out)
 taken w out e =
-    written-done (rowsFor w) (messageFor w) out (refusals w) (sym (ap (λ (x : Effect). x .result .answer) (by-rows w out)) ∙ e)
+    written-done (rowsFor w) (messageFor w) out (refusals w) (sym (ap (λ (x : Effect Outcome). x .result .answer) (by-rows w out)) ∙ e)
 
 -- A message of data bytes between F0H and F7H that is accepted with its record.
 pub record Sound (w : Written) : Type 0 where

@@ -4,8 +4,7 @@ use mathlib.Core.List.{List, [], _∷_, _++_}
 use Prim.Native.Nat.{ℕ}
 use lib.Dec.{eqb, ltb}
 use lib.ListN.{length, drop, getD}
-use Rattle.answers.specs.Table.{Row, row, Verdict, done, refused, answerOf, detailOf}
-use Rattle.answers.specs.Effect.{outcome}
+use Rattle.answers.specs.Table.{Row, row, Verdict, done, refused, answerOf, detailOf, outcome}
 use Rattle.answers.specs.declared.Outcome.{Outcome}
 use Rattle.frames.specs.Bytes.{body, withoutRealTime, framed}
 use Rattle.frames.specs.Stream.{Reading}

@@ -7,8 +7,8 @@ use mathlib.Core.Bool.{cond}
 use lib.Dec.{leb, ltb}
 use lib.ListN.{length, take, drop, getD}
 use Rattle.answers.specs.Lists.{All}
-use Rattle.answers.specs.Table.{Verdict, done, answerOf}
-use Rattle.answers.specs.Effect.{outcome, tested}
+use Rattle.answers.specs.Table.{Verdict, done, answerOf, outcome}
+use Rattle.answers.specs.Effect.{tested}
 use Rattle.frames.specs.Stream.{Report, report, Reading, reports, read}
 use Rattle.messages.specs.declared.kinds.Dump.{Dump}
 use Rattle.messages.specs.declared.kinds.Kind.the-variants.{Dump as ofDump}

@@ -3,8 +3,7 @@ use mathlib.Core.Path.{_≡_}
 use mathlib.Core.List.{List, [], _∷_}
 use Prim.Native.Nat.{ℕ}
 use lib.ListN.{getD, set, replicate}
-use Rattle.answers.specs.Table.{done, refused}
-use Rattle.answers.specs.Effect.{outcome}
+use Rattle.answers.specs.Table.{done, refused, outcome}
 use Rattle.patch.specs.Names.{naming}
 use Rattle.patch.specs.Values.{plus, minus, valueOf}
 use Rattle.edits.specs.Edits.{extended, applying, applyingBus}

@@ -6,8 +6,8 @@ use mathlib.Core.Option.{some}
 use Prim.Native.Nat.{ℕ, zero, suc, _+_, _-_, _*_, _/_, _≤_, _<_}
 use lib.ListN.{length, take, drop}
 use Rattle.answers.specs.Lists.{All}
-use Rattle.answers.specs.Table.{Verdict, done, answerOf}
-use Rattle.answers.specs.Effect.{Effect, outcome}
+use Rattle.answers.specs.Table.{Verdict, done, answerOf, outcome}
+use Rattle.answers.specs.Effect.{Effect}
 use Rattle.frames.specs.Bytes.{withoutRealTime}
 use Rattle.frames.specs.Stream.{Report, report, Reading, walk, reports, read}
 use Rattle.patch.specs.Names.{naming, showing}

@@ -6,12 +6,12 @@ use mathlib.Core.Option.{Option, none, some}
 use Prim.Native.Nat.{ℕ, zero, suc, _+_, _*_, _/_, _%_, _<_, _≤_}
 use native.Mathlib.Omega.{arith}
 use native.Mathlib.Numerals.{add-one}
-use lib.ListN.{length, take, drop, set, length-append, length-drop}
+use lib.ListN.{length, take, drop, length-append, length-drop}
 use lib.Seq.{length-take-le, drop-drop}
-use borrow.Author.Tests.{lt-ltb, le-ltb, eq-eqb}
-use Rattle.answers.specs.Table.{rowAt, done, first}
-use Rattle.answers.specs.Effect.{tested}
-use Rattle.answers.proofs.Lists.{put-next}
+use borrow.Author.Tests.{le-ltb, eq-eqb}
+use Rattle.answers.specs.Table.{rowAt, done, first, outcome}
+use Rattle.answers.specs.Effect.{Gives, toldAs, tested, written}
+use Rattle.answers.proofs.Effects.{written-fits, written-short}
 use Rattle.answers.proofs.Rows.{first-stopped, first-zero}
 use Rattle.nibbles.specs.Nibbles.{nibbles, sum}
 use Rattle.nibbles.proofs.Laws.{length-nibbles}
@@ -19,22 +19,7 @@ use Rattle.patch.specs.Patch.{firstOut, firstHalf, fieldRows}
 use Rattle.patch.proofs.Tests.{field-refusals}
 use Rattle.messages.specs.Layout.{dump}
 use Rattle.writing.specs.declared.BankOutcome.{BankOutcome}
-use Rattle.writing.specs.Writing.{writingBank, bankFrom, firstBad, Bad, bad, orLater, bankOutcome, bankTested, bankRoom, unlessBad, BankGives}
-
--- An output after stores of bytes one after the other from place n on.
-abbrev pub puts : ℕ → List ℕ → List ℕ → List ℕ
-puts n [] o = o
-puts n (b ∷ bs) o = puts (n + 1) bs (set o n b)
-
--- A is written from the start of o; then bs is written behind it.
-pub puts-after : (A bs o xs : List ℕ) (n : ℕ) → length A ≡ n → n + length bs ≤ length o → xs ≡ A ++ drop n o
-    → puts n bs xs ≡ (A ++ bs) ++ drop (n + length bs) o
-puts-after A [] o xs n e h ex = let z : n + 0 ≡ n = omega arith in rw (ex, append-nil, z)
-puts-after A (b ∷ bs) o xs n e h ex =
-    let la : length (A ++ (b ∷ [])) ≡ n + 1 = omega (arith, length-append A (b ∷ [])) in
-    let ly : n + 1 + length bs ≡ n + length (b ∷ bs) = omega arith in
-    let here = ap (λ (l : List ℕ). set l n b) ex ∙ put-next A o n b e (omega arith) in
-    puts-after (A ++ (b ∷ [])) bs o (set xs n b) (n + 1) la (omega arith) here ∙ rw ly (simp append-assoc)
+use Rattle.writing.specs.Writing.{writingBank, bankFrom, firstBad, orLater, bankOutcome, noPlace, bankTested, unlessBad}
 
 -- A dump has two nibbles to a byte, and seven bytes around them.
 pub length-dump : (o n : ℕ) (p : List ℕ) → length (dump o n p) ≡ 2 * length p + 7
@@ -85,7 +70,7 @@ bank-more n k ps = bank-split n 1 k ps ∙ rw append-nil
 
 -- A bad patch is the lowest bad one of those from it on.
 pub bad-here : (n k : ℕ) (ps : List ℕ) → (tested (fieldRows (take 134 ps)) .answer ≡ 0 → ⊥)
-    → firstBad (n + 1) k ps ≡ some (bad k (tested (fieldRows (take 134 ps)) .answer) (tested (fieldRows (take 134 ps)) .detail))
+    → firstBad (n + 1) k ps ≡ some (bankOutcome (tested (fieldRows (take 134 ps))) k)
 unfolding firstBad
 bad-here n k ps h = rw (add-one n, first-stopped (fieldRows (take 134 ps)) (done 0 [] []) h)
 
@@ -101,35 +86,34 @@ unfolding writingBank
 bank-tested ps out e h = rw (eq-eqb (length ps % 134) 0 e, le-ltb 13400 (length ps) h)
 
 -- A bank whose test answers 0 has no bad patch.
-pub none-bad : (n k : ℕ) (ps : List ℕ) → bankTested (firstBad n k ps) .answer ≡ 0 → firstBad n k ps ≡ none
+pub none-bad : (n k : ℕ) (ps : List ℕ) → bankTested (firstBad n k ps) .outcome .answer ≡ 0 → firstBad n k ps ≡ none
 unfolding firstBad
 none-bad zero k ps z = refl
 none-bad (suc n) k ps z = go (firstOut (take 134 ps)) (firstHalf (take 134 ps)) z (none-bad n (suc k) (drop 134 ps))
   where
-    behind : Option Bad
+    behind : Option BankOutcome
     behind = firstBad n (suc k) (drop 134 ps)
 
-    from : Option ℕ → Option ℕ → Option Bad
+    from : Option ℕ → Option ℕ → Option BankOutcome
     from a b = orLater k (first (rowAt 11 a ∷ rowAt 12 b ∷ []) (done 0 [] [])) behind
 
-    go : (a b : Option ℕ) → bankTested (from a b) .answer ≡ 0 → (bankTested behind .answer ≡ 0 → behind ≡ none) → from a b ≡ none
+    go : (a b : Option ℕ) → bankTested (from a b) .outcome .answer ≡ 0 → (bankTested behind .outcome .answer ≡ 0 → behind ≡ none) → from a b ≡ none
     go none none z rest = rest z
     go none (some d) z rest = absurd (omega arith)
     go (some d) b z rest = absurd (omega arith)
 
 -- A bad patch refuses the bank, and every byte is kept.
-pub gives-bad : (f : Option Bad) (bytes out : List ℕ) (r : BankOutcome) → r ≡ bankTested f → (r .answer ≡ 0 → ⊥)
-    → BankGives (unlessBad f bytes out) r out
-gives-bad none bytes out r e n = absurd (n (ap (λ (o : BankOutcome). o .answer) e))
-gives-bad (some (bad k m d)) bytes out r e n = record { result = e; lent = refl }
+pub gives-bad : (f : Option BankOutcome) (bytes out : List ℕ) (r : BankOutcome) → r ≡ bankTested f → (r .outcome .answer ≡ 0 → ⊥)
+    → Gives (unlessBad f bytes out) r out
+gives-bad none bytes out r e n = absurd (n (ap (λ (o : BankOutcome). o .outcome .answer) e))
+gives-bad (some b) bytes out r e n = record { result = e; lent = refl }
 
 -- A bank that does not fit is refused by 13, and every byte is kept.
-pub bank-short : (bytes out : List ℕ) (m : ℕ) → length bytes ≡ m → length out < m → BankGives (bankRoom bytes out) (bankOutcome 13 0 0) out
-unfolding bankRoom
-bank-short bytes out m l h = rw (lt-ltb (length out) (length bytes) (omega arith)) (record { result = refl; lent = refl })
+pub bank-short : (bytes out : List ℕ) (m : ℕ) (r : BankOutcome) → length bytes ≡ m → length out < m → r ≡ noPlace (outcome 13 0)
+    → Gives (toldAs noPlace (written [] bytes out)) r out
+bank-short bytes out m r l h e = rw (written-short [] bytes out tt (omega arith)) (record { result = e; lent = refl })
 
 -- A bank that fits is written, and the bytes behind it kept.
-pub bank-written : (bytes out after : List ℕ) (m : ℕ) → length bytes ≡ m → m ≤ length out → after ≡ bytes ++ drop m out
-    → BankGives (bankRoom bytes out) (bankOutcome 0 m 0) after
-unfolding bankRoom
-bank-written bytes out after m l h w = rw (l, le-ltb (length out) m h) (record { result = refl; lent = w })
+pub bank-written : (bytes out after : List ℕ) (m : ℕ) (r : BankOutcome) → length bytes ≡ m → m ≤ length out → after ≡ bytes ++ drop m out
+    → r ≡ noPlace (outcome 0 m) → Gives (toldAs noPlace (written [] bytes out)) r after
+bank-written bytes out after m r l h w e = rw (written-fits [] bytes out tt (omega arith), l) (record { result = e; lent = w })

@@ -8,51 +8,49 @@ use answers::WRONG_LENGTH;
 use messages::dumps::test_packed;
 use messages::dumps::wrong_number;
 use messages::kinds::BUS_EDIT;
+use messages::kinds::DEVICE;
 use messages::kinds::Dump;
 use messages::kinds::EDIT_BUFFER;
+use messages::kinds::MAKER;
 use messages::kinds::MASTER_PARAMETERS;
+use messages::kinds::MasterParameters;
+use messages::kinds::PATCH;
 use messages::kinds::REMOTE_EDIT;
 use messages::kinds::SINGLE_PATCH;
+use messages::kinds::Short;
+use messages::kinds::SinglePatch;
 use messages::kinds::size_of;
+use messages::shorts::test_operands;
 ghost use mathlib.Core.Path.{_≡_};
 ghost use mathlib.Core.List.{[], _∷_, _++_};
 ghost use Prim.Native.Nat.{_+_, _*_, _/_, _≤_};
 ghost use lib.ListN.{length, drop};
-ghost use Rattle.answers.specs.Effect.{Gives, tested};
+ghost use Rattle.answers.specs.Effect.{Gives, tested, written};
 ghost use Rattle.nibbles.specs.Nibbles.{sum};
-ghost use Rattle.messages.specs.Kinds.{singlePatch, masterParameters, editBuffer, remoteEdit, busEdit, sizeOf};
-ghost use Rattle.messages.specs.Layout.{dump};
-ghost use Rattle.writing.specs.Writing.{takenRows, writingDump, writingShort, writingBank, BankGives, bankFrom, firstBad, bankTested};
-
-// The packed bytes of a patch.
-const PATCH: usize = 134;
-
-// The length of its dump.
-const PATCH_DUMP: usize = 275;
+ghost use Rattle.messages.specs.declared.kinds.Kind.the-variants.{Dump as ofDump, Short as ofShort};
+ghost use Rattle.messages.specs.Kinds.{singlePatch, masterParameters, editBuffer, remoteEdit, busEdit, Sized};
+ghost use Rattle.messages.specs.Layout.{dump, dumpGiven};
+ghost use Rattle.writing.specs.Writing.{writing, writingBank, bankFrom, firstBad, bankTested, noPlace};
 
 // A bank has at most 100 patches.
-const BANK: usize = 13_400;
+const BANK: usize = 100 * PATCH;
 
-// The version that a master carries.
-const VERSION: u8 = 3;
-
-// What a bank comes to: an answer, its detail, and as place the number of the patch that is refused, 0 with other answers.
+// What a bank comes to: an outcome, and as place the number of the patch that is refused, 0 with other answers.
+#[repr(C)]
 pub struct BankOutcome {
-    pub answer: u8,
-    pub detail: usize,
+    pub outcome: Outcome,
     pub place: usize,
 }
 
-// F0H, maker, device, opcode, and the byte behind it. The callers below have seen that the message fits.
-fn put_opening(opcode: u8, byte: u8, out: &mut [u8])
-    requires { ⌜ 5 ≤ length (now out) ⌝ }
-    ensures { λ _. ⌜ now (out .exit) ≡ (0xF0 ∷ 0x10 ∷ 0x06 ∷ opcode ∷ byte ∷ []) ++ drop 5 (now (out .entry)) ⌝ }
+// F0H, maker, device, opcode. The callers below have seen that the message fits.
+fn put_opening(opcode: u8, out: &mut [u8])
+    requires { ⌜ 4 ≤ length (now out) ⌝ }
+    ensures { λ _. ⌜ now (out .exit) ≡ (0xF0 ∷ 0x10 ∷ 0x06 ∷ opcode ∷ []) ++ drop 4 (now (out .entry)) ⌝ }
 {
     out[0] = 0xF0;
-    out[1] = 0x10;
-    out[2] = 0x06;
+    out[1] = MAKER;
+    out[2] = DEVICE;
     out[3] = opcode;
-    out[4] = byte;
 }
 
 // The sum of packed bytes, and F7H. `put_dump` has seen that they fit.
@@ -69,7 +67,8 @@ fn put_dump(opcode: u8, number: u8, packed: &[u8], out: &mut [u8])
     requires { ⌜ 2 * length (now packed) + 7 ≤ length (now out) ⌝ }
     ensures { λ _. ⌜ now (out .exit) ≡ dump opcode number (now (packed .entry)) ++ drop (length (dump opcode number (now (packed .entry)))) (now (out .entry)) ⌝ }
 {
-    put_opening(opcode, number, out);
+    put_opening(opcode, out);
+    out[4] = number;
     nibbles::unpack_into(packed, &mut out[5..]);
     let end = 5 + 2 * packed.len();
     put_closing(packed, &mut out[end..]);
@@ -77,7 +76,7 @@ fn put_dump(opcode: u8, number: u8, packed: &[u8], out: &mut [u8])
 
 // What the writer of a dump tests: 7, 8, then the packed bytes' own 11 and 12.
 fn test_dump(kind: Dump, number: u8, p: &[u8]) -> Outcome
-    ensures { λ r. ⌜ r ≡ tested (takenRows kind number (now (p .entry))) ⌝ }
+    ensures { λ r. ⌜ r ≡ tested (dumpGiven kind number (now (p .entry))) ⌝ }
 {
     let packed = kind.packed;
     if p.len() != size_of(packed) {
@@ -90,79 +89,95 @@ fn test_dump(kind: Dump, number: u8, p: &[u8]) -> Outcome
     test_packed(packed, p)
 }
 
-// Writes a dump by its description: its tests, then 13. Done with its length. No kind has more than 172 packed bytes.
+// Writes a dump by its description: its tests, then 13. Done with its length.
 fn write_dump(kind: Dump, number: u8, p: &[u8], out: &mut [u8]) -> Outcome
-    requires { ⌜ sizeOf (kind .packed) ≤ 172 ⌝ }
-    ensures { λ r. ⌜ Gives (writingDump kind number (now (p .entry)) (now (out .entry))) r (now (out .exit)) ⌝ }
+    requires { ⌜ Sized (ofDump kind) ⌝ }
+    ensures { λ r. ⌜ Gives (written (dumpGiven kind number (now (p .entry))) (dump (kind .opcode) number (now (p .entry))) (now (out .entry))) r (now (out .exit)) ⌝ }
 {
     let tested = test_dump(kind, number, p);
     if tested.answer != DONE {
         return tested;
     }
-    let length = 2 * p.len() + 7;
-    if out.len() < length {
+    if out.len() < kind.length {
         return answers::refused(NO_ROOM, 0);
     }
     put_dump(kind.opcode, number, p, out);
-    answers::done(length)
+    answers::done(kind.length)
 }
 
 // Writes a numbered patch: 7 for a patch that is not 134 bytes, 8 for a number above 99, the patch's own 11 and 12, then 13. Done
 // with detail 275.
 pub fn write_patch(number: u8, p: &[u8], out: &mut [u8]) -> Outcome
-    ensures { λ r. ⌜ Gives (writingDump singlePatch number (now (p .entry)) (now (out .entry))) r (now (out .exit)) ⌝ }
+    ensures { λ r. ⌜ Gives (writing (ofDump singlePatch) (number ∷ []) (now (p .entry)) (now (out .entry))) r (now (out .exit)) ⌝ }
 {
     write_dump(SINGLE_PATCH, number, p, out)
 }
 
 // Writes a patch to the edit buffer, which has no number: the patch's own 7, 11 and 12, then 13. Done with detail 275.
 pub fn write_edit_buffer(p: &[u8], out: &mut [u8]) -> Outcome
-    ensures { λ r. ⌜ Gives (writingDump editBuffer 0 (now (p .entry)) (now (out .entry))) r (now (out .exit)) ⌝ }
+    ensures { λ r. ⌜ Gives (writing (ofDump editBuffer) [] (now (p .entry)) (now (out .entry))) r (now (out .exit)) ⌝ }
 {
     write_dump(EDIT_BUFFER, 0, p, out)
 }
 
 // Writes master parameters, version 3: 7 for a master that is not 172 bytes, then 13. Done with detail 351.
 pub fn write_master(m: &[u8], out: &mut [u8]) -> Outcome
-    ensures { λ r. ⌜ Gives (writingDump masterParameters 3 (now (m .entry)) (now (out .entry))) r (now (out .exit)) ⌝ }
+    ensures { λ r. ⌜ Gives (writing (ofDump masterParameters) [] (now (m .entry)) (now (out .entry))) r (now (out .exit)) ⌝ }
 {
-    write_dump(MASTER_PARAMETERS, VERSION, m, out)
+    write_dump(MASTER_PARAMETERS, MasterParameters::VERSION, m, out)
+}
+
+// Bytes at the start of an output. The caller below has seen that they fit.
+fn put_bytes(bytes: &[u8], out: &mut [u8])
+    requires { ⌜ length (now bytes) ≤ length (now out) ⌝ }
+    ensures { λ _. ⌜ now (out .exit) ≡ now (bytes .entry) ++ drop (length (now (bytes .entry))) (now (out .entry)) ⌝ }
+{
+    let mut i: usize = 0;
+    while i < bytes.len() {
+        out[i] = bytes[i];
+        i += 1;
+    }
+}
+
+// Writes a short message by its description: the tests of its bytes, then 13. Done with its length.
+fn write_short(kind: Short, bytes: &[u8], out: &mut [u8]) -> Outcome
+    requires { ⌜ Sized (ofShort kind) ⌝ }
+    ensures { λ r. ⌜ Gives (writing (ofShort kind) (now (bytes .entry)) [] (now (out .entry))) r (now (out .exit)) ⌝ }
+{
+    let operands = kind.operands;
+    let tested = test_operands(operands, bytes);
+    if tested.answer != DONE {
+        return tested;
+    }
+    let length = kind.length;
+    if out.len() < length {
+        return answers::refused(NO_ROOM, 0);
+    }
+    put_opening(kind.opcode, out);
+    put_bytes(bytes, &mut out[4..]);
+    out[length - 1] = 0xF7;
+    answers::done(length)
 }
 
 // Writes a remote edit: its own 8 and 11, then 13. Done with detail 7.
 pub fn write_edit(parameter: u8, value: u8, out: &mut [u8]) -> Outcome
-    ensures { λ r. ⌜ Gives (writingShort remoteEdit (parameter ∷ value ∷ []) (now (out .entry))) r (now (out .exit)) ⌝ }
+    ensures { λ r. ⌜ Gives (writing (ofShort remoteEdit) (parameter ∷ value ∷ []) [] (now (out .entry))) r (now (out .exit)) ⌝ }
 {
-    let tested = edits::test_edit(parameter, value);
-    if tested.answer != DONE {
-        return tested;
-    }
-    if out.len() < 7 {
-        return answers::refused(NO_ROOM, 0);
-    }
-    put_opening(REMOTE_EDIT.opcode, parameter, out);
-    out[5] = value;
-    out[6] = 0xF7;
-    answers::done(7)
+    write_short(REMOTE_EDIT, &[parameter, value], out)
 }
 
 // Writes a matrix modulation edit: its own 8, 14, 11 and 12, then 13. Done with detail 9.
 pub fn write_bus_edit(bus: u8, source: u8, amount: u8, destination: u8, out: &mut [u8]) -> Outcome
-    ensures { λ r. ⌜ Gives (writingShort busEdit (bus ∷ source ∷ amount ∷ destination ∷ []) (now (out .entry))) r (now (out .exit)) ⌝ }
+    ensures { λ r. ⌜ Gives (writing (ofShort busEdit) (bus ∷ source ∷ amount ∷ destination ∷ []) [] (now (out .entry))) r (now (out .exit)) ⌝ }
 {
-    let tested = edits::test_bus_edit(bus, source, amount, destination);
-    if tested.answer != DONE {
-        return tested;
-    }
-    if out.len() < 9 {
-        return answers::refused(NO_ROOM, 0);
-    }
-    put_opening(BUS_EDIT.opcode, bus, out);
-    out[5] = source;
-    out[6] = amount;
-    out[7] = destination;
-    out[8] = 0xF7;
-    answers::done(9)
+    write_short(BUS_EDIT, &[bus, source, amount, destination], out)
+}
+
+// An outcome that is about no patch of a bank.
+fn no_place(outcome: Outcome) -> BankOutcome
+    ensures { λ r. ⌜ r ≡ noPlace outcome ⌝ }
+{
+    BankOutcome { outcome, place: 0 }
 }
 
 // The lowest bad patch of a bank: its own 11 or 12 with its number as place, or done with zeros.
@@ -174,21 +189,13 @@ fn test_bank(ps: &[u8]) -> BankOutcome
     while k < n {
         let from = k * PATCH;
         let to = from + PATCH;
-        let tested = patch::checks::test(&ps[from..to]);
-        if tested.answer != DONE {
-            return BankOutcome {
-                answer: tested.answer,
-                detail: tested.detail,
-                place: k,
-            };
+        let outcome = patch::checks::test(&ps[from..to]);
+        if outcome.answer != DONE {
+            return BankOutcome { outcome, place: k };
         }
         k += 1;
     }
-    BankOutcome {
-        answer: DONE,
-        detail: 0,
-        place: 0,
-    }
+    no_place(answers::done(0))
 }
 
 // Dump after dump, each from its own place. `write_bank` has tested the length and the room.
@@ -201,8 +208,8 @@ fn put_bank(ps: &[u8], out: &mut [u8])
     while k < count {
         let from = k * PATCH;
         let to = from + PATCH;
-        let at = k * PATCH_DUMP;
-        put_dump(SINGLE_PATCH.opcode, k as u8, &ps[from..to], &mut out[at..]);
+        let at = k * SinglePatch::LENGTH;
+        put_dump(SinglePatch::OPCODE, k as u8, &ps[from..to], &mut out[at..]);
         k += 1;
     }
 }
@@ -210,38 +217,22 @@ fn put_bank(ps: &[u8], out: &mut [u8])
 // Writes a bank of 0 to 100 patches end to end, numbered from 0: 7 for a length that is not a multiple of 134 or above 13,400, then
 // the lowest bad patch's own 11 or 12 with its number as place, then 13. Done with the bytes written as detail.
 pub fn write_bank(ps: &[u8], out: &mut [u8]) -> BankOutcome
-    ensures { λ r. ⌜ BankGives (writingBank (now (ps .entry)) (now (out .entry))) r (now (out .exit)) ⌝ }
+    ensures { λ r. ⌜ Gives (writingBank (now (ps .entry)) (now (out .entry))) r (now (out .exit)) ⌝ }
 {
     if ps.len() % PATCH != 0 {
-        return BankOutcome {
-            answer: WRONG_LENGTH,
-            detail: 0,
-            place: 0,
-        };
+        return no_place(answers::refused(WRONG_LENGTH, 0));
     }
     if BANK < ps.len() {
-        return BankOutcome {
-            answer: WRONG_LENGTH,
-            detail: 0,
-            place: 0,
-        };
+        return no_place(answers::refused(WRONG_LENGTH, 0));
     }
     let tested = test_bank(ps);
-    if tested.answer != DONE {
+    if tested.outcome.answer != DONE {
         return tested;
     }
-    let size = ps.len() / PATCH * PATCH_DUMP;
+    let size = ps.len() / PATCH * SinglePatch::LENGTH;
     if out.len() < size {
-        return BankOutcome {
-            answer: NO_ROOM,
-            detail: 0,
-            place: 0,
-        };
+        return no_place(answers::refused(NO_ROOM, 0));
     }
     put_bank(ps, out);
-    BankOutcome {
-        answer: DONE,
-        detail: size,
-        place: 0,
-    }
+    no_place(answers::done(size))
 }

@@ -2,7 +2,7 @@
 use mathlib.Core.Path.{refl, _∙_}
 use mathlib.Core.List.{[], _∷_}
 use borrow.Author.Needs.{needs}
-use Rattle.writing.proofs.Laws.{puts-after}
+use Rattle.answers.proofs.Lists.{puts-after}
 use Rattle.writing.proofs.put_closing.Statement.{statement}
 use Rattle.writing.proofs.put_closing.Tie as tie
 

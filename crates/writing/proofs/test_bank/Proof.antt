@@ -61,7 +61,7 @@ returns c =
     let t = c .before .before in
     let e = answered t in
     let here = bad-here (behind t) (at t) (left t) (λ z. c .if1 .taken (ap (λ (o : Outcome). o .answer) e ∙ z)) in
-    ap (λ (o : Outcome). bankOutcome (o .answer) (o .detail) (at t)) e ∙ sym (ap bankTested (from-here t ∙ here))
+    ap (λ (o : Outcome). bankOutcome o (at t)) e ∙ sym (ap bankTested (from-here t ∙ here))
 
 loop-again : tie.Need-loop-again Inv-loop μ-loop
 loop-again c =
@@ -74,11 +74,11 @@ loop-again c =
 returns-2 : tie.Need-returns-2 Inv-loop μ-loop
 unfolding firstBad
 returns-2 c =
-    let at = c .before .loop in
-    let ps = c .before .before .before .args .ps .now in
+    let at = c .before .before .before .loop in
+    let ps = c .before .before .before .before .before .args .ps .now in
     let end : length ps / 134 - at .k ≡ 0 = omega arith in
     let none-left : firstBad (length ps / 134 - at .k) (at .k) (drop (at .k * 134) ps) ≡ none = rw end in
-    sym (ap bankTested (at .inv .1 ∙ none-left))
+    rw (c .no-place .ensures, c .before .done .ensures) (sym (ap bankTested (at .inv .1 ∙ none-left)))
 
 pub test-bank-spec : {M : Type 1} → statement M
 test-bank-spec =
@@ -97,4 +97,6 @@ test-bank-spec =
     (λ c. omega arith)
     (λ c. omega arith)
     loop-again
+    (λ c κs. omega arith)
+    (λ c κs. omega arith)
     returns-2)

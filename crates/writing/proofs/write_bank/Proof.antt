@@ -1,24 +1,27 @@
 -- The length, every patch and the room are tested in this order, and then the bank is written: each return is a case of `writingBank`.
 use mathlib.Core.Path.{_≡_, refl, ap, sym, _∙_}
-use mathlib.Core.List.{List}
+use mathlib.Core.List.{List, []}
 use Prim.Native.Nat.{ℕ, _*_, _/_}
 use native.Mathlib.Omega.{arith}
 use lib.ListN.{length}
 use borrow.Author.Needs.{needs}
 use borrow.Author.Tests.{eq-eqb, ne-eqb, lt-ltb}
+use Rattle.answers.specs.Effect.{toldAs, written}
 use Rattle.writing.specs.declared.BankOutcome.{BankOutcome}
-use Rattle.writing.specs.Writing.{writingBank, bankFrom, firstBad, bankRoom, unlessBad}
+use Rattle.writing.specs.Writing.{writingBank, bankFrom, firstBad, noPlace, unlessBad}
 use Rattle.writing.proofs.Laws.{length-bank, bank-tested, none-bad, gives-bad, bank-short, bank-written}
 use Rattle.writing.proofs.write_bank.Statement.{statement}
 use Rattle.writing.proofs.write_bank.Tie as tie
 
 returns : tie.Need-returns
 unfolding writingBank
-returns c = rw (ne-eqb _ 0 (c .if1 .taken)) (record { result = refl; lent = refl })
+returns c = rw (ne-eqb _ 0 (c .before .before .if1 .taken)) (record { result = rw (c .before .refused .ensures) at (c .no-place .ensures); lent = refl })
 
 returns-2 : tie.Need-returns-2
 unfolding writingBank
-returns-2 c = rw (eq-eqb _ 0 (c .before .if1 .left), lt-ltb 13400 _ (c .if2 .taken)) (record { result = refl; lent = refl })
+returns-2 c =
+    rw (eq-eqb _ 0 (c .before .before .before .if1 .left), lt-ltb 13400 _ (c .before .before .if2 .taken))
+    (record { result = rw (c .before .refused2 .ensures) at (c .no-place2 .ensures); lent = refl })
 
 abbrev bank : tie.After-test-bank → List ℕ
 bank t = t .before .before .before .before .before .args .ps .now
@@ -37,9 +40,10 @@ so-far : (t : tie.After-test-bank) → writingBank (bank t) (out t) ≡ unlessBa
 so-far t = bank-tested (bank t) (out t) (t .before .before .if1 .left) (t .before .if2 .left)
 
 -- Every patch has passed.
-all-tested : (t : tie.After-test-bank) → t .test-bank .result .answer ≡ 0 → writingBank (bank t) (out t) ≡ bankRoom (bytes t) (out t)
+all-tested : (t : tie.After-test-bank) → t .test-bank .result .outcome .answer ≡ 0
+    → writingBank (bank t) (out t) ≡ toldAs noPlace (written [] (bytes t) (out t))
 all-tested t z =
-    let e = none-bad (count t) 0 (bank t) (sym (ap (λ (o : BankOutcome). o .answer) (t .test-bank .ensures)) ∙ z) in
+    let e = none-bad (count t) 0 (bank t) (sym (ap (λ (o : BankOutcome). o .outcome .answer) (t .test-bank .ensures)) ∙ z) in
     so-far t ∙ rw e
 
 size : (t : tie.After-test-bank) → length (bytes t) ≡ count t * 275
@@ -52,27 +56,35 @@ returns-3 c =
 
 returns-4 : tie.Need-returns-4
 returns-4 c =
-    let t = c .before .before .before in
-    rw (all-tested t (c .before .if3 .left)) (bank-short (bytes t) (out t) (count t * 275) (size t) (c .if4 .taken))
+    let t = c .before .before .before .before .before in
+    rw (all-tested t (c .before .before .before .if3 .left))
+    (bank-short (bytes t) (out t) (count t * 275) (c .no-place3 .result) (size t) (c .before .before .if4 .taken) (rw (c .before .refused3 .ensures) at (c .no-place3 .ensures)))
 
 returns-5 : tie.Need-returns-5
 returns-5 c =
-    let w = c .before .before in
-    let room = w .before .before in
-    let t = room .before .before .before in
-    rw (all-tested t (room .before .if3 .left))
-    (bank-written (bytes t) (out t) (w .put-bank .last .1 .0) (count t * 275) (size t) (room .if4 .left) (w .put-bank .ensures))
+    let t = c .before .before .before .before .before .before .before .before .before in
+    rw (all-tested t (c .before .before .before .before .before .before .before .if3 .left))
+    (bank-written (bytes t) (out t) (c .before .before .before .before .put-bank .last .1 .0) (count t * 275) (c .no-place4 .result) (size t) (c .before .before .before .before .before .before .if4 .left) (c .before .before .before .before .put-bank .ensures)
+    (rw (c .before .done .ensures) at (c .no-place4 .ensures)))
 
 pub write-bank-spec : {M : Type 1} → statement M
 write-bank-spec =
     tie.close
     (tie.spec
+    (λ c κs. search needs)
+    (λ c κs. search needs)
     returns
+    (λ c κs. search needs)
+    (λ c κs. search needs)
     returns-2
     (λ c κs. search needs)
     returns-3
     (λ c. search needs)
+    (λ c κs. search needs)
+    (λ c κs. search needs)
     returns-4
+    (λ c κs. search needs)
+    (λ c κs. search needs)
     (λ c κs. search needs)
     (λ c. search needs)
     returns-5)

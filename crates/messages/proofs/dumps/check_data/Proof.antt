@@ -1,4 +1,5 @@
 -- `check_data` packs, then compares the sum: each return is a case of the rows of a dump's data.
+use mathlib.Core.Path.{refl}
 use borrow.Author.Needs.{needs}
 use Rattle.messages.proofs.Data.{check-refused, check-sum, check-done}
 use Rattle.messages.proofs.dumps.check_data.Statement.{statement}
@@ -9,29 +10,26 @@ returns c =
     let at = c .before .before .before .before in
     let start = at .before .before .before .before in
     check-refused (start .args .sent .now) (start .args .packed .now) (at .pack-into .last .1 .0) (at .pack-into .result) (start .pre) (at .pack-into .ensures)
-    (start .args .sum) (c .refused .result) (c .before .if1 .taken) (c .refused .ensures)
+    (start .args .sum) (at .pack-into .result) (c .if1 .taken) refl
 
 returns-2 : tie.Need-returns-2
 returns-2 c =
-    let at = c .before .before .before .before .before .before .before in
+    let at = c .before .before .before .before .before .before .before .before in
     let start = at .before .before .before .before in
     check-sum (start .args .sent .now) (start .args .packed .now) (at .pack-into .last .1 .0) (at .pack-into .result) (start .pre) (at .pack-into .ensures)
-    (start .args .sum) (c .refused2 .result) (c .before .before .checksum .result) (c .before .before .before .before .if1 .left)
-    (c .before .before .checksum .ensures) (c .before .if2 .taken) (c .refused2 .ensures)
+    (start .args .sum) (c .refused .result) (c .before .before .checksum .result) (c .before .before .before .before .if1 .left) (c .before .before .checksum .ensures) (c .before .if2 .taken) (c .refused .ensures)
 
 returns-3 : tie.Need-returns-3
 returns-3 c =
-    let at = c .before .before .before .before .before .before .before in
+    let at = c .before .before .before .before .before .before .before .before in
     let start = at .before .before .before .before in
     check-done (start .args .sent .now) (start .args .packed .now) (at .pack-into .last .1 .0) (at .pack-into .result) (start .pre) (at .pack-into .ensures)
-    (start .args .sum) (c .done .result) (c .before .before .checksum .result) (c .before .before .before .before .if1 .left)
-    (c .before .before .checksum .ensures) (c .before .if2 .left) (c .done .ensures)
+    (start .args .sum) (c .done .result) (c .before .before .checksum .result) (c .before .before .before .before .if1 .left) (c .before .before .checksum .ensures) (c .before .if2 .left) (c .done .ensures)
 
 pub check-data-spec : {M : Type 1} → statement M
 check-data-spec =
     tie.close
     (tie.spec
-    (λ c κs. search needs)
     (λ c κs. search needs)
     (λ c. search needs)
     returns

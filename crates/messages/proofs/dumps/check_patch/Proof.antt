@@ -11,11 +11,12 @@ returns : tie.Need-returns
 returns c =
     let at = c .before .before .before in
     let start = at .before .before .before in
-    c .refused .ensures ∙ data-stopped aPatch (start .args .sent .now) (start .args .sum) (at .check-data .last .1 .1 .0) (at .check-data .result) (at .check-data .ensures) (c .before .if1 .taken)
+    data-stopped aPatch (start .args .sent .now) (start .args .sum) (at .check-data .last .1 .1 .0) (at .check-data .result) (at .check-data .ensures)
+    (c .if1 .taken)
 
 returns-2 : tie.Need-returns-2
 returns-2 c =
-    let at = c .before .before .before .before in
+    let at = c .before .before .before .before .before in
     let start = at .before .before .before in
     let packed = at .check-data .last .1 .1 .0 in
     c .test .ensures ∙ fields-tested packed (at .check-data .kept .1 .1 .0)
@@ -24,11 +25,4 @@ returns-2 c =
 pub check-patch-spec : {M : Type 1} → statement M
 check-patch-spec =
     tie.close
-    (tie.spec
-    (λ c. search needs)
-    (λ c κs. search needs)
-    (λ c κs. search needs)
-    returns
-    (λ c. search needs)
-    (λ c κs. search needs)
-    returns-2)
+    (tie.spec (λ c. search needs) (λ c κs. search needs) returns (λ c. search needs) (λ c κs. search needs) returns-2)

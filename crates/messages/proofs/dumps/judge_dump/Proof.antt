@@ -1,23 +1,23 @@
 -- `judge_dump` tests the length, the byte behind the opcode, then what `check_packed` tests: each return is what the rows of the description are answered.
 use mathlib.Core.Path.{_≡_, refl, sym, _∙_}
 use mathlib.Core.Bool.{false}
-use mathlib.Core.List.{List}
-use Prim.Native.Nat.{ℕ, _+_, _-_, _*_}
+use mathlib.Core.List.{List, [], _∷_}
+use Prim.Native.Nat.{ℕ}
 use native.Mathlib.Omega.{arith}
-use lib.ListN.{length, getD}
+use lib.ListN.{getD}
 use borrow.Author.Needs.{needs}
-use Rattle.answers.specs.Effect.{outcome, tested}
-use Rattle.messages.specs.Kinds.{Dump, ofDump, sizeOf}
-use Rattle.messages.specs.Judge.{misnumbered}
+use Rattle.answers.specs.Table.{outcome, four}
+use Rattle.answers.specs.Effect.{tested}
+use Rattle.messages.specs.Kinds.{Behind, numberTo, always, Dump}
+use Rattle.messages.specs.Judge.{misnumbered, numberIn}
 use Rattle.messages.proofs.Verdicts.{kind-length, kind-stopped, kind-done, contentRows, of-dump}
 use Rattle.messages.proofs.dumps.judge_dump.Statement.{statement}
 use Rattle.messages.proofs.dumps.judge_dump.Tie as tie
 
 returns : tie.Need-returns
 returns c =
-    let at = c .before .before in
-    let a = at .before .before .args in
-    c .refused .ensures ∙ kind-length (ofDump (a .kind)) (a .content .now) (λ e. c .before .if1 .taken (omega (arith, at .size-of .ensures)))
+    let start = c .before .before .before .before in
+    c .refused-by .ensures ∙ kind-length (of-dump (start .args .kind) (start .pre) (start .args .content .now)) (c .before .if1 .taken)
 
 abbrev kind : tie.After-wrong-number → Dump
 kind t = t .before .before .before .before .before .args .kind
@@ -25,53 +25,57 @@ kind t = t .before .before .before .before .before .args .kind
 abbrev content : tie.After-wrong-number → List ℕ
 content t = t .before .before .before .before .before .args .content .now
 
-long : (t : tie.After-wrong-number) → length (content t) + 2 ≡ 7 + 2 * sizeOf (kind t .packed)
-long t = omega (arith, t .before .before .if1 .left, t .before .before .before .size-of .ensures)
+number-there : tie.Need-shared-slice-read-number
+number-there c = omega (arith, c .before .before .before .before .pre .0, c .before .if1 .left)
 
 returns-2 : tie.Need-returns-2
 returns-2 c =
     let t = c .before .before in
     let wrong = sym (t .wrong-number .ensures) ∙ c .before .if2 .taken in
     let said : outcome 8 0 ≡ tested (contentRows (kind t) (content t)) = rw wrong in
-    c .refused2 .ensures ∙ kind-stopped (of-dump (kind t) (content t)) (long t) said (λ z. omega arith)
+    c .refused-by2 .ensures ∙ kind-stopped (of-dump (kind t) (t .before .before .before .before .before .pre) (content t)) (t .before .before .if1 .left) said (λ z. omega arith)
 
-abbrev wrong : tie.After-check-packed → tie.After-wrong-number
-wrong p = p .before .before
+long-enough : tie.Need-check-packed-requires
+long-enough c κs = let t = c .before in (omega (arith, t .before .before .before .before .before .pre .0, t .before .before .if1 .left), t .before .before .before .before .before .pre .1)
 
 -- The byte behind the opcode has passed: what the data and the packed bytes are answered is what the rows are.
-answered : (p : tie.After-check-packed) → p .check-packed .result ≡ tested (contentRows (kind (wrong p)) (content (wrong p)))
+answered : (p : tie.After-check-packed) → p .check-packed .result ≡ tested (contentRows (kind (p .before .before)) (content (p .before .before)))
 answered p =
-    let t = wrong p in
+    let t = p .before .before in
     let right : misnumbered (kind t .behind) (getD (content t) 3 0) ≡ false = sym (t .wrong-number .ensures) ∙ p .before .if2 .left in
     rw right (p .check-packed .ensures)
 
 returns-3 : tie.Need-returns-3
 returns-3 c =
-    let p = c .before .before in
-    let t = wrong p in
-    c .refused3 .ensures ∙ kind-stopped (of-dump (kind t) (content t)) (long t) (answered p) (c .before .if3 .taken)
+    let p = c .before .before .before in
+    let t = p .before .before in
+    c .refused .ensures ∙ kind-stopped (of-dump (kind t) (t .before .before .before .before .before .pre) (content t)) (t .before .before .if1 .left) (answered p) (c .before .if3 .taken)
+
+-- The number is the first of the bytes that come with the answer, and the only one.
+number-only : (b : Behind) (n : ℕ) → getD (numberIn b n) 0 0 ∷ 0 ∷ 0 ∷ 0 ∷ [] ≡ four (numberIn b n)
+number-only (numberTo greatest) n = refl
+number-only (always byte) n = refl
 
 returns-4 : tie.Need-returns-4
 returns-4 c =
-    let n = c .before in
-    let p = n .before .before in
-    let t = wrong p in
-    c .accepted .ensures ∙ (rw (n .number-of .ensures) (kind-done (of-dump (kind t) (content t)) (long t) (answered p) (n .before .if3 .left)))
+    let p = c .before .before .before .before in
+    let t = p .before .before in
+    c .accepted .ensures
+    ∙ rw (c .before .number-of .ensures, number-only (kind t .behind) (getD (content t) 3 0))
+    (kind-done (of-dump (kind t) (t .before .before .before .before .before .pre) (content t)) (t .before .before .if1 .left) (answered p) (c .before .before .if3 .left))
 
 pub judge-dump-spec : {M : Type 1} → statement M
 judge-dump-spec =
     tie.close
     (tie.spec
-    (λ c κs. search needs)
-    (λ c. search needs)
     (λ c. search needs)
     (λ c κs. search needs)
     returns
-    (λ c. search needs)
+    number-there
     (λ c κs. search needs)
     (λ c κs. search needs)
     returns-2
-    (λ c κs. search needs)
+    long-enough
     (λ c κs. search needs)
     returns-3
     (λ c κs. search needs)

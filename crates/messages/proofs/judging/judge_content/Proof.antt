@@ -4,7 +4,7 @@ use native.Mathlib.Omega.{arith}
 use lib.ListN.{getD}
 use borrow.Author.Needs.{needs}
 use Rattle.frames.specs.Bytes.{framed}
-use Rattle.messages.specs.Judge.{byteAt, opcodeVerdict}
+use Rattle.messages.specs.Judge.{byteAt, kindVerdict}
 use Rattle.messages.specs.Kinds.{kindOf}
 use Rattle.messages.proofs.Content.{framed-byte, framed-end}
 use Rattle.messages.proofs.Verdicts.{judge-maker, judge-device, judge-opcode}
@@ -15,13 +15,13 @@ returns : tie.Need-returns
 returns c =
     let m = c .before .before .before .args .content .now in
     let e : byteAt (framed m) 1 ≡ 0xF7 = framed-end m 0 (omega arith) in
-    c .refused .ensures ∙ rw (judge-maker (framed m) (λ z. omega arith))
+    c .refused-by .ensures ∙ rw (judge-maker (framed m) (λ z. omega arith))
 
 returns-2 : tie.Need-returns-2
 returns-2 c =
     let m = c .before .before .before .before .before .args .content .now in
     let e : byteAt (framed m) 1 ≡ getD m 0 0 = framed-byte m 0 (omega arith) in
-    c .refused2 .ensures ∙ rw (judge-maker (framed m) (λ z. c .before .if2 .taken (sym e ∙ z)))
+    c .refused-by2 .ensures ∙ rw (judge-maker (framed m) (λ z. c .before .if2 .taken (sym e ∙ z)))
 
 returns-3 : tie.Need-returns-3
 returns-3 c =
@@ -29,7 +29,7 @@ returns-3 c =
     let m = else2 .before .before .before .before .args .content .now in
     let e₁ : byteAt (framed m) 1 ≡ getD m 0 0 = framed-byte m 0 (omega arith) in
     let e₂ : byteAt (framed m) 2 ≡ 0xF7 = framed-end m 1 (omega arith) in
-    c .refused3 .ensures ∙ rw (judge-device (framed m) (e₁ ∙ else2 .if2 .left) (λ z. omega arith))
+    c .refused-by3 .ensures ∙ rw (judge-device (framed m) (e₁ ∙ else2 .if2 .left) (λ z. omega arith))
 
 returns-4 : tie.Need-returns-4
 returns-4 c =
@@ -37,10 +37,10 @@ returns-4 c =
     let m = else2 .before .before .before .before .args .content .now in
     let e₁ : byteAt (framed m) 1 ≡ getD m 0 0 = framed-byte m 0 (omega arith) in
     let e₂ : byteAt (framed m) 2 ≡ getD m 1 0 = framed-byte m 1 (omega arith) in
-    c .refused4 .ensures ∙ rw (judge-device (framed m) (e₁ ∙ else2 .if2 .left) (λ z. c .before .if4 .taken (sym e₂ ∙ z)))
+    c .refused-by4 .ensures ∙ rw (judge-device (framed m) (e₁ ∙ else2 .if2 .left) (λ z. c .before .if4 .taken (sym e₂ ∙ z)))
 
 returns-5 : tie.Need-returns-5
-unfolding opcodeVerdict kindOf
+unfolding kindVerdict kindOf
 returns-5 c =
     let else4 = c .before .before in
     let else2 = else4 .before .before .before in
@@ -48,7 +48,7 @@ returns-5 c =
     let e₁ : byteAt (framed m) 1 ≡ getD m 0 0 = framed-byte m 0 (omega arith) in
     let e₂ : byteAt (framed m) 2 ≡ getD m 1 0 = framed-byte m 1 (omega arith) in
     let e₃ : byteAt (framed m) 3 ≡ 0xF7 = framed-end m 2 (omega arith) in
-    c .refused5 .ensures ∙ rw (judge-opcode (framed m) (e₁ ∙ else2 .if2 .left) (e₂ ∙ else4 .if4 .left), e₃)
+    c .refused-by5 .ensures ∙ rw (judge-opcode (framed m) (e₁ ∙ else2 .if2 .left) (e₂ ∙ else4 .if4 .left), e₃)
 
 returns-6 : tie.Need-returns-6
 returns-6 c =

@@ -1,39 +1,27 @@
--- `judge_kind` judges by the kind that the opcode finds; no kind is longer than 351, so none has more than 172 packed bytes.
-use mathlib.Core.Path.{_≡_, _∙_, sym}
-use native.Mathlib.Omega.{arith}
+-- `judge_kind` judges by the kind that the opcode finds, which has the length that its parts add up to.
+use mathlib.Core.Path.{_≡_, _∙_, sym, subst}
 use borrow.Author.Needs.{needs}
-use Rattle.messages.specs.Kinds.{ofDump, kindOf}
-use Rattle.messages.specs.Judge.{opcodeVerdict}
-use Rattle.messages.proofs.Filed.{longest}
+use Rattle.messages.specs.Kinds.{Kind, ofDump, ofShort, kindOf, Sized}
+use Rattle.messages.specs.Judge.{kindVerdict}
+use Rattle.messages.proofs.Filed.{kind-sized}
 use Rattle.messages.proofs.judging.judge_kind.Statement.{statement}
 use Rattle.messages.proofs.judging.judge_kind.Tie as tie
 
 judge-dump-requires : tie.Need-judge-dump-requires
-judge-dump-requires c κs =
-    let at = c .before .before .before in
-    let opcode = at .before .before .args .opcode in
-    let e : kindOf opcode ≡ ofDump (c .before .kind .given .0 .0) = sym (at .kind-of .ensures) ∙ c .before .kind .given .1 in
-    omega (arith, rw e at (longest opcode))
+judge-dump-requires c κs = subst Sized (sym (c .before .before .before .kind-of .ensures) ∙ c .before .kind .given .1) (kind-sized (c .before .before .before .before .before .args .opcode))
+
+judge-short-requires : tie.Need-judge-short-requires
+judge-short-requires c κs = subst Sized (sym (c .before .before .before .kind-of .ensures) ∙ c .before .kind2 .given .1) (kind-sized (c .before .before .before .before .before .args .opcode))
 
 returns : tie.Need-returns
-unfolding opcodeVerdict
-returns c =
-    let kind = c .before .before in
-    let at = kind .before .before in
-    rw (← (at .kind-of .ensures), kind .kind .given .1) (c .judge-dump .ensures)
+returns c = rw (← (c .before .before .before .before .kind-of .ensures), c .before .before .kind .given .1) (c .judge-dump .ensures)
 
 returns-2 : tie.Need-returns-2
-unfolding opcodeVerdict
-returns-2 c =
-    let kind = c .before .before in
-    let at = kind .before .before in
-    rw (← (at .kind-of .ensures), kind .kind2 .given .1) (c .judge-short .ensures)
+returns-2 c = rw (← (c .before .before .before .before .kind-of .ensures), c .before .before .kind2 .given .1) (c .judge-short .ensures)
 
 returns-3 : tie.Need-returns-3
-unfolding opcodeVerdict
-returns-3 c =
-    let at = c .before .before .before in
-    rw (← (at .kind-of .ensures), c .before .enum-told .given .1) (c .refused .ensures)
+unfolding kindVerdict
+returns-3 c = rw (← (c .before .before .before .kind-of .ensures), c .before .enum-told .given .1) (c .refused-by .ensures)
 
 pub judge-kind-spec : {M : Type 1} → statement M
 judge-kind-spec =
@@ -43,7 +31,7 @@ judge-kind-spec =
     (λ c. search needs)
     judge-dump-requires
     (λ c. search needs)
-    (λ c κs. search needs)
+    judge-short-requires
     (λ c. search needs)
     (λ c κs. search needs)
     returns

@@ -6,7 +6,7 @@ use native.Mathlib.Omega.{arith}
 use lib.ListN.{length, take, length-map}
 use lib.Seq.{length-take-le}
 use borrow.Author.Needs.{needs}
-use Rattle.answers.proofs.Rows.{Silent}
+use Rattle.answers.specs.Table.{Silent}
 use Rattle.answers.proofs.Effects.{passed, gives-stopped, gives-short, gives-written}
 use Rattle.patch.specs.Patch.{patchRows}
 use Rattle.patch.specs.Names.{shown, showing}

@@ -14,7 +14,7 @@ use Rattle.frames.specs.Stream.{messageAt}
 use Rattle.frames.specs.Scan.{outside, inside, scan}
 use Rattle.frames.proofs.Handing.{outside-none, outside-found, inside-again, inside-left, inside-cut}
 use Rattle.messages.specs.Judge.{judge}
-use Rattle.reading.specs.Listed.{fourOf, Lists}
+use Rattle.reading.specs.Rooms.{numbersOf, width, fitting, Holds}
 use Rattle.reading.proofs.Spans.{span-length}
 use Rattle.reading.proofs.Rooms.{lists-full, lists-none, lists-one, lists-more, lists-fits, four-numbers}
 use Rattle.reading.proofs.listing.list_inside.Reads as list-inside
@@ -74,11 +74,11 @@ list-inside-report-at-requires t c κs = (c .before .before .before .before .pre
 
 -- The report stands at the start of the room.
 first : (t : ℕ) (c : list-inside-lts.After-put-report (calls t) (list-inside-at t) list-inside.Post)
-    → c .put-report .last .1 .0 ≡ fourOf (messageAt judge (c .before .before .before .before .before .before .before .args .start) (c .before .before .before .before .before .before .before .args .rest .now)) ++ drop 4 (c .before .before .before .before .before .before .before .args .room .now)
+    → c .put-report .last .1 .0 ≡ numbersOf (messageAt judge (c .before .before .before .before .before .before .before .args .start) (c .before .before .before .before .before .before .before .args .rest .now)) ++ drop width (c .before .before .before .before .before .before .before .args .room .now)
 first t c =
     let a = c .before .before .before .before .before .before .before .args in
     let four = four-numbers (messageAt judge (a .start) (a .rest .now)) (c .before .before .report-at .result) (c .before .before .report-at .ensures) in
-    c .put-report .ensures ∙ ap (λ (l : List ℕ). l ++ drop 4 (a .room .now)) four
+    c .put-report .ensures ∙ ap (λ (l : List ℕ). l ++ drop width (a .room .now)) four
 
 list-inside-returns-2 : (t : ℕ) → list-inside-lts.Need-returns-2 (calls t) (list-inside-at t) list-inside.Post
 list-inside-returns-2 t c =
@@ -115,7 +115,8 @@ list-inside-returns-3 t c =
     let xs = puts .put-report .last .1 .0 in
     let i = index t else2 in
     let e : f + 1 + n ≡ suc f + n = omega arith in
-    let inner : Lists (scan judge (suc (suc f + n)) (inside (suc f + n) []) (drop (n + 1) s)) (take (length xs - 4) (drop 4 xs)) (call .list-inside .last .1 .1 .0) (call .list-inside .result) =
+    let rest = take (length xs - width) (drop width xs) in
+    let inner : Holds (fitting rest (scan judge (suc (suc f + n)) (inside (suc f + n) []) (drop (n + 1) s))) rest (call .list-inside .last .1 .1 .0) (call .list-inside .result) =
     rw (to-end (puts .before .before .before .find-end .result .length + 1) s, i, e) at (call .list-inside .ensures) in
     rw (inside-again judge f s (there t else2) (rw i at (branch .if3 .taken)))
     (lists-more (messageAt judge f s) (scan judge (suc (suc f + n)) (inside (suc f + n) []) (drop (n + 1) s)) (a .room .now) xs (puts .before .before .before .before .if1 .left) (first t puts)
@@ -134,7 +135,8 @@ list-inside-returns-4 t c =
     let xs = puts .put-report .last .1 .0 in
     let i = index t else2 in
     let e : f + 1 + n + 1 ≡ suc (suc f + n) = omega arith in
-    let inner : Lists (scan judge (suc (suc f + n)) outside (drop (n + 1) s)) (take (length xs - 4) (drop 4 xs)) (call .list-outside .last .1 .1 .0) (call .list-outside .result) =
+    let rest = take (length xs - width) (drop width xs) in
+    let inner : Holds (fitting rest (scan judge (suc (suc f + n)) outside (drop (n + 1) s))) rest (call .list-outside .last .1 .1 .0) (call .list-outside .result) =
     rw (to-end (puts .before .before .before .find-end .result .length + 1) s, i, e) at (call .list-outside .ensures) in
     rw (inside-left judge f s (there t else2) (λ z. branch .if3 .left (rw i z)))
     (lists-more (messageAt judge f s) (scan judge (suc (suc f + n)) outside (drop (n + 1) s)) (a .room .now) xs (puts .before .before .before .before .if1 .left) (first t puts)
@@ -145,14 +147,25 @@ list-inside-add-result t c =
     let call = c .before .before in
     let puts = call .before .before .before .before .before .before .before .before in
     let xs = puts .put-report .last .1 .0 in
-    omega (arith, lists-fits (call .list-inside .ensures), ap length (to-end 4 xs), length-drop 4 xs, puts .put-report .kept .1 .0, puts .before .before .before .before .before .before .before .good)
+    let at = puts .before .before .before .before .before .before .before in
+    let n = puts .before .before .before .find-end .result .length in
+    let s = at .args .rest .now in
+    let rest = take (length xs - width) (drop width xs) in
+    let place = at .args .start + 1 + n in
+    let behind = scan judge (suc place) (inside place []) (take (length s - (n + 1)) (drop (n + 1) s)) in
+    omega (arith, lists-fits behind rest (call .list-inside .ensures), ap length (to-end width xs), length-drop width xs, puts .put-report .kept .1 .0, at .good)
 
 list-inside-add-result-2 : (t : ℕ) → list-inside-lts.Need-add-result-2 (calls t) (list-inside-at t) list-inside.Post
 list-inside-add-result-2 t c =
     let call = c .before .before in
     let puts = call .before .before .before .before .before .before .before .before in
     let xs = puts .put-report .last .1 .0 in
-    omega (arith, lists-fits (call .list-outside .ensures), ap length (to-end 4 xs), length-drop 4 xs, puts .put-report .kept .1 .0, puts .before .before .before .before .before .before .before .good)
+    let at = puts .before .before .before .before .before .before .before in
+    let n = puts .before .before .before .find-end .result .length in
+    let s = at .args .rest .now in
+    let rest = take (length xs - width) (drop width xs) in
+    let behind = scan judge (at .args .start + 1 + n + 1) outside (take (length s - (n + 1)) (drop (n + 1) s)) in
+    omega (arith, lists-fits behind rest (call .list-outside .ensures), ap length (to-end width xs), length-drop width xs, puts .put-report .kept .1 .0, at .good)
 
 list-outside-returns : (t : ℕ) → list-outside-lts.Need-returns (outer-calls t) (list-outside-at t) list-outside.Post
 list-outside-returns t c = lists-full _ (c .before .before .before .args .room .now) (c .if1 .taken)

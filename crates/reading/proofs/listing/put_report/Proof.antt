@@ -1,13 +1,18 @@
--- `put_report` stores four numbers at the start of the room.
+-- `put_report` stores its numbers one after the other from the start of the room.
+use mathlib.Core.Path.{refl}
+use mathlib.Core.List.{[], _∷_}
 use native.Mathlib.Omega.{arith}
 use lib.ListN.{length-set}
 use borrow.Author.Needs.{needs}
-use Rattle.reading.proofs.Rooms.{set-four}
+use Rattle.answers.proofs.Lists.{puts-after}
 use Rattle.reading.proofs.listing.put_report.Statement.{statement}
 use Rattle.reading.proofs.listing.put_report.Tie as tie
 
 returns : tie.Need-returns
-returns c = set-four (c .before .args .room .now) (c .before .args .r .start) (c .before .args .r .end) (c .before .args .r .answer) (c .before .args .r .detail) (c .before .pre)
+returns c =
+    let r = c .before .args .r in
+    let room = c .before .args .room .now in
+    puts-after [] (r .start ∷ r .end ∷ r .outcome .answer ∷ r .outcome .detail ∷ []) room room 0 refl (c .before .pre) refl
 
 pub put-report-spec : {M : Type 1} → statement M
 put-report-spec =

@@ -29,8 +29,8 @@ mul-last c = omega (arith, fits c, c .before .before .before .before .before .be
 mul-t6 : tie.Need-mul-t6
 mul-t6 c = omega (arith, fits c, c .before .before .before .before .before .before .before .before .good)
 
-slice-read-t11 : tie.Need-slice-read-t11
-slice-read-t11 c = omega (arith, fits (c .before), c .before .before .before .before .list-some .kept .1 .1 .0, c .before .if2 .left)
+slice-read-t10 : tie.Need-slice-read-t10
+slice-read-t10 c = omega (arith, fits (c .before), c .before .before .before .before .list-some .kept .1 .1 .0, c .before .if2 .left)
 
 returns-3 : tie.Need-returns-3
 returns-3 c =
@@ -48,7 +48,8 @@ reports-spec =
     returns-2
     mul-last
     (λ c. search needs)
+    (λ c. omega (arith, c .if2 .left))
     mul-t6
-    slice-read-t11
+    slice-read-t10
     (λ c. search needs)
     returns-3)

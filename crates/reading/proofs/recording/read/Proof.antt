@@ -15,9 +15,10 @@ use Rattle.reading.proofs.recording.read.Tie as tie
 returns : tie.Need-returns
 unfolding read
 returns c =
-    let at = c .before .before in
+    let at = c .before .before .before in
     let a = at .before .before .before .args in
-    rw (walk-none judge (a .s .now) (a .place) (rw (at .find-start-from .ensures) at (c .before .if1 .taken))) (record { result = c .refused .ensures; lent = refl })
+    rw (walk-none judge (a .s .now) (a .place) (rw (at .find-start-from .ensures) at (c .before .before .if1 .taken)))
+    (record { result = rw (c .before .refused .ensures) at (c .bare .ensures); lent = refl })
 
 read-at-requires : tie.Need-read-at-requires
 read-at-requires c κs =
@@ -46,6 +47,7 @@ pub read-spec : {M : Type 1} → statement M
 read-spec =
     tie.close
     (tie.spec
+    (λ c κs. search needs)
     (λ c κs. search needs)
     (λ c κs. search needs)
     returns

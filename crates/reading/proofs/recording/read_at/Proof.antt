@@ -10,8 +10,9 @@ add-end-2 c = let a = c .before .before in omega (arith, span-within (a .args .r
 
 returns : tie.Need-returns
 returns c =
-    let a = c .before .before .before .before in
-    read-ended (a .args .rest .now) (a .args .span) (a .pre .1) (a .args .start) (a .args .buffer .now) (c .refused .result) (c .before .if1 .taken) (c .refused .ensures)
+    let a = c .before .before .before .before .before in
+    read-ended (a .args .rest .now) (a .args .span) (a .pre .1) (a .args .start) (a .args .buffer .now) (c .bare .result) (c .before .before .if1 .taken)
+    (rw (c .before .refused .ensures) at (c .bare .ensures))
 
 slice-aggregate-read-body : tie.Need-slice-aggregate-read-body
 slice-aggregate-read-body c =
@@ -33,8 +34,8 @@ returns-2 c =
     let at = c .before .before in
     let else1 = at .before .before .before in
     let a = else1 .before .before .before in
-    read-complete (a .args .rest .now) (a .args .span) (a .pre .1) (a .args .start) (a .args .buffer .now) (at .read-body .result) (at .read-body .last .1 .1 .1 .1 .0)
-    (else1 .if1 .left) (at .read-body .ensures)
+    read-complete (a .args .rest .now) (a .args .span) (a .pre .1) (a .args .start) (a .args .buffer .now) (at .read-body .result)
+    (at .read-body .last .1 .1 .1 .1 .0) (else1 .if1 .left) (at .read-body .ensures)
 
 pub read-at-spec : {M : Type 1} → statement M
 read-at-spec =
@@ -42,6 +43,7 @@ read-at-spec =
     (tie.spec
     (λ c. search needs)
     add-end-2
+    (λ c κs. search needs)
     (λ c κs. search needs)
     returns
     slice-aggregate-read-body

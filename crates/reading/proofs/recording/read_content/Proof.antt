@@ -1,6 +1,7 @@
--- `read_content` judges, then sees to the room, then packs: each return is a case of `readInto`.
+-- `read_content` judges, then sees to the room, then packs: each return is a case of `recorded`.
 use mathlib.Core.Path.{_≡_, refl, ap, _∙_}
-use Prim.Native.Nat.{_*_, _+_, _-_, _≤_, _<_}
+use mathlib.Core.List.{List}
+use Prim.Native.Nat.{ℕ, _*_, _+_, _-_, _≤_, _<_}
 use native.Mathlib.Omega.{arith}
 use lib.ListN.{length}
 use borrow.Author.Needs.{needs}
@@ -12,39 +13,46 @@ use Rattle.reading.proofs.recording.read_content.Tie as tie
 
 returns : tie.Need-returns
 returns c =
-    let at = c .before .before in
+    let at = c .before .before .before .before .before in
     let a = at .before .before .before .args in
-    read-refused (a .content .now) (at .judge-content .result) (at .judge-content .ensures) (a .start) (a .end) (a .buffer .now) (c .refused .result)
-    (c .before .if1 .taken) (c .refused .ensures)
+    read-refused (a .content .now) (at .judge-content .result) (at .judge-content .ensures) (a .start) (a .end) (a .buffer .now) (c .bare .result)
+    (c .before .if1 .taken) (c .bare .ensures)
+
+abbrev judging : tie.After-packed-size → tie.After-judge-content
+judging c = c .before .before .before .before .before .before
+
+abbrev content : tie.After-packed-size → List ℕ
+content c = judging c .before .before .before .args .content .now
+
+abbrev buffer : tie.After-packed-size → List ℕ
+buffer c = judging c .before .before .before .args .buffer .now
 
 -- What is accepted, and that its size is the one found.
-its : (c : tie.After-packed-size) → Accepted (c .before .before .before .before .before .before .args .content .now)
-its c =
-    let at = c .before .before .before in
-    read-accepted (at .before .before .before .args .content .now) (at .judge-content .result) (at .judge-content .ensures) (c .before .before .if1 .left)
+its : (c : tie.After-packed-size) → Accepted (content c)
+its c = read-accepted (content c) (judging c .judge-content .result) (judging c .judge-content .ensures) (c .before .before .if1 .left)
 
 size : (c : tie.After-packed-size) → c .packed-size .result ≡ its c .size
 size c =
-    let at = c .before .before .before in
-    c .packed-size .ensures ∙ ap packedSize (c .before .kind-of .ensures) ∙ size-its (at .before .before .before .args .content .now) (at .judge-content .result) (at .judge-content .ensures) (its c)
+    let at = judging c in
+    c .packed-size .ensures ∙ ap packedSize (c .before .kind-of .ensures) ∙ size-its (content c) (at .judge-content .result) (at .judge-content .ensures) (its c)
 
 returns-2 : tie.Need-returns-2
 returns-2 c =
-    let found = c .before .before in
-    let at = found .before .before .before in
+    let found = c .before .before .before in
+    let at = judging found in
     let a = at .before .before .before .args in
-    read-short (a .content .now) (at .judge-content .result) (at .judge-content .ensures) (its found) (a .start) (a .end) (a .buffer .now) (c .refused2 .result)
-    (rw (size found) at (c .before .if2 .taken)) (c .refused2 .ensures)
+    read-short (content found) (at .judge-content .result) (at .judge-content .ensures) (its found) (a .start) (a .end) (buffer found) (c .bare2 .result)
+    (rw (size found) at (c .before .before .if2 .taken)) (rw (c .before .refused .ensures) at (c .bare2 .ensures))
 
 -- The data bytes are there.
-within : (c : tie.Then3) → 4 + 2 * c .before .before .packed-size .result < length (c .before .before .before .before .before .before .before .before .args .content .now)
-within c = let found = c .before .before in let e = size found in rw e (its found .fits (omega (arith, c .if3 .taken)))
+within : (c : tie.Then3) → 4 + 2 * c .before .before .packed-size .result < length (content (c .before .before))
+within c = let found = c .before .before in let e = size found in omega (arith, its found .fits (omega (arith, c .if3 .taken)))
 
 mul-pack-into : tie.Need-mul-pack-into
-mul-pack-into c = omega (arith, within c, c .before .before .before .before .before .before .before .before .good)
+mul-pack-into c = omega (arith, within c, c .before .before .before .before .before .before .before .before .before .before .before .good)
 
 add-pack-into : tie.Need-add-pack-into
-add-pack-into c = omega (arith, within c, c .before .before .before .before .before .before .before .before .good)
+add-pack-into c = omega (arith, within c, c .before .before .before .before .before .before .before .before .before .before .before .good)
 
 part-pack-into-end : tie.Need-part-pack-into-end
 part-pack-into-end c = omega (arith, within c)
@@ -52,28 +60,28 @@ part-pack-into-end c = omega (arith, within c)
 returns-3 : tie.Need-returns-3
 returns-3 c =
     let packs = c .before .before in
-    let then3 = packs .before .before .before in
-    let found = then3 .before .before in
-    let at = found .before .before .before in
+    let found = c .before .before .before .before .before .before .before in
+    let at = judging found in
     let a = at .before .before .before .args in
     let e = size found in
     let m : 4 + 2 * found .packed-size .result - 4 ≡ 2 * found .packed-size .result = omega arith in
-    let room : its found .size ≤ length (a .buffer .now) = rw e at (then3 .before .if2 .left) in
-    read-stored (a .content .now) (at .judge-content .result) (at .judge-content .ensures) (its found) (a .start) (a .end) (a .buffer .now) _ (packs .pack-into .last .1 .0)
-    room
-    (packed-into (a .content .now) (at .judge-content .result) (at .judge-content .ensures) (its found) (a .buffer .now) (packs .pack-into .result) (packs .pack-into .last .1 .0)
-    room (rw (m, e) at (packs .pack-into .ensures)))
-    refl
+    let room : its found .size ≤ length (buffer found) = rw e at (c .before .before .before .before .before .before .if2 .left) in
+    let after = packs .pack-into .last .1 .0 in
+    let filled =
+    packed-into (content found) (at .judge-content .result) (at .judge-content .ensures) (its found) (buffer found) (packs .pack-into .result) after room
+    (rw (m, e) at (packs .pack-into .ensures)) in
+    read-stored (content found) (at .judge-content .result) (at .judge-content .ensures) (its found) (a .start) (a .end) (buffer found) _ after room filled refl
 
 returns-4 : tie.Need-returns-4
 returns-4 c =
     let found = c .before .before in
-    let at = found .before .before .before in
+    let at = judging found in
     let a = at .before .before .before .args in
     let e = size found in
     let none : its found .size ≡ 0 = omega (arith, c .if3 .left) in
-    read-stored (a .content .now) (at .judge-content .result) (at .judge-content .ensures) (its found) (a .start) (a .end) (a .buffer .now) _ (a .buffer .now)
-    (omega arith) (nothing-packed (a .content .now) (at .judge-content .result) (at .judge-content .ensures) (its found) (a .buffer .now) none) refl
+    let kept = nothing-packed (content found) (at .judge-content .result) (at .judge-content .ensures) (its found) (buffer found) none in
+    read-stored (content found) (at .judge-content .result) (at .judge-content .ensures) (its found) (a .start) (a .end) (buffer found) _ (buffer found)
+    (omega arith) kept refl
 
 pub read-content-spec : {M : Type 1} → statement M
 read-content-spec =
@@ -82,6 +90,7 @@ read-content-spec =
     (λ c κs. search needs)
     (λ c κs. search needs)
     returns
+    (λ c κs. search needs)
     (λ c κs. search needs)
     (λ c κs. search needs)
     (λ c κs. search needs)

@@ -1,12 +1,12 @@
 -- `judge_body` judges the bytes as they stand, or what is left of them without real time: of a longer message the first 350.
-use mathlib.Core.Path.{refl, sym, _∙_}
-use Prim.Native.Nat.{_≤_}
+use mathlib.Core.Path.{sym, _∙_}
 use native.Mathlib.Omega.{arith}
 use lib.ListN.{length}
 use lib.Seq.{length-take-le}
 use borrow.Author.Needs.{needs}
-use Rattle.frames.proofs.Kept.{without-none, kept-whole}
-use Rattle.messages.proofs.Long.{judge-front}
+use Rattle.frames.specs.Bytes.{withoutRealTime}
+use Rattle.frames.proofs.Kept.{without-none}
+use Rattle.messages.proofs.Long.{judge-first}
 use Rattle.reading.proofs.walking.judge_body.Statement.{statement}
 use Rattle.reading.proofs.walking.judge_body.Tie as tie
 
@@ -15,22 +15,12 @@ returns c =
     let start = c .before .before .before in
     c .judge-content .ensures ∙ rw (without-none (start .args .body .now) (sym (start .pre) ∙ c .before .if1 .taken))
 
-slice-aggregate-judge-content : tie.Need-slice-aggregate-judge-content
-slice-aggregate-judge-content c =
-    let at = c .before .before .before in
-    let h : at .drop-real-time .result ≤ length (at .drop-real-time .last .1 .0) = omega (arith, at .drop-real-time .kept .1 .0) in
-    sym (length-take-le (at .drop-real-time .result) (at .drop-real-time .last .1 .0) h)
+kept-length : tie.Need-slice-aggregate-judge-content
+kept-length c = let at = c .before .before in sym (length-take-le (at .keep .result) (at .keep .last .1 .0) (at .keep .ensures .within))
 
 returns-2 : tie.Need-returns-2
 returns-2 c =
-    let at = c .before .before .before .before in
-    let e = kept-whole _ _ _ _ refl (at .drop-real-time .ensures) (c .before .before .if2 .taken) in
-    c .judge-content2 .ensures ∙ rw e
-
-returns-3 : tie.Need-returns-3
-returns-3 c =
-    let at = c .before .before .before .before in
-    c .judge-content3 .ensures ∙ rw (judge-front refl (at .drop-real-time .ensures) (c .before .before .if2 .left))
+    c .judge-content2 .ensures ∙ rw (c .before .before .before .keep .ensures .bytes, judge-first (withoutRealTime (c .before .before .before .before .before .before .before .args .body .now)))
 
 pub judge-body-spec : {M : Type 1} → statement M
 judge-body-spec =
@@ -40,10 +30,7 @@ judge-body-spec =
     returns
     (λ c. search needs)
     (λ c κs. search needs)
-    (λ c. search needs)
-    slice-aggregate-judge-content
+    (λ c. omega (arith, c .before .keep .ensures .within, c .before .keep .kept .1 .0))
+    kept-length
     (λ c κs. search needs)
-    returns-2
-    (λ c. search needs)
-    (λ c κs. search needs)
-    returns-3)
+    returns-2)

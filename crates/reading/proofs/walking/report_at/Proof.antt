@@ -10,8 +10,8 @@ add-end-2 c = let a = c .before in omega (arith, span-within (a .args .rest .now
 
 returns : tie.Need-returns
 returns c =
-    let a = c .before .before in
-    report-ended (a .args .rest .now) (a .args .span) (a .pre .1) (a .args .start) (c .if1 .taken)
+    let a = c .before .before .before in
+    rw (c .refused .ensures) (report-ended (a .args .rest .now) (a .args .span) (a .pre .1) (a .args .start) (c .before .if1 .taken))
 
 slice-aggregate-judge-body : tie.Need-slice-aggregate-judge-body
 slice-aggregate-judge-body c =
@@ -23,15 +23,17 @@ judge-body-requires c κs =
     let a = c .before .before .before in
     span-quiet (a .args .rest .now) (a .args .span) (a .pre .1)
 
-add-t8 : tie.Need-add-t8
-add-t8 c =
-    let a = c .before .before .before .before in
-    omega (arith, span-closed (a .args .rest .now) (a .args .span) (a .pre .1) (c .before .before .if1 .left), a .pre .0)
+add-t9 : tie.Need-add-t9
+add-t9 c =
+    let a = c .before .before .before .before .before in
+    omega (arith, span-closed (a .args .rest .now) (a .args .span) (a .pre .1) (c .before .before .before .if1 .left), a .pre .0)
 
 returns-2 : tie.Need-returns-2
 returns-2 c =
-    let a = c .before .before .before .before in
-    report-judged (a .args .rest .now) (a .args .span) (a .pre .1) (a .args .start) (c .judge-body .result) (c .before .before .if1 .left) (c .judge-body .ensures)
+    let j = c .before in
+    let a = j .before .before .before .before in
+    report-judged (a .args .rest .now) (a .args .span) (a .pre .1) (a .args .start) (j .judge-body .result) (j .before .before .if1 .left)
+    (j .judge-body .ensures)
 
 pub report-at-spec : {M : Type 1} → statement M
 report-at-spec =
@@ -39,8 +41,9 @@ report-at-spec =
     (tie.spec
     (λ c. search needs)
     add-end-2
+    (λ c κs. search needs)
     returns
     slice-aggregate-judge-body
     judge-body-requires
-    add-t8
+    add-t9
     returns-2)

@@ -13,9 +13,9 @@ use Rattle.reading.proofs.walking.walk.Tie as tie
 
 returns : tie.Need-returns
 returns c =
-    let at = c .before in
+    let at = c .before .before in
     let a = at .before .before .args in
-    rw (walk-none judge (a .s .now) (a .place) (rw (at .find-start-from .ensures) at (c .if1 .taken)))
+    rw (walk-none judge (a .s .now) (a .place) (rw (at .find-start-from .ensures) at (c .before .if1 .taken)), c .refused .ensures)
 
 report-at-requires : tie.Need-report-at-requires
 report-at-requires c κs =
@@ -41,6 +41,7 @@ pub walk-spec : {M : Type 1} → statement M
 walk-spec =
     tie.close
     (tie.spec
+    (λ c κs. search needs)
     (λ c κs. search needs)
     returns
     (λ c. search needs)

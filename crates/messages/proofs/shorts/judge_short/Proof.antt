@@ -1,0 +1,63 @@
+-- `judge_short` tests the length, then the bytes behind the opcode: each return is what the rows of the description are answered.
+use mathlib.Core.Path.{_≡_, _∙_, ap}
+use mathlib.Core.List.{List}
+use Prim.Native.Nat.{ℕ, _+_}
+use native.Mathlib.Omega.{arith}
+use lib.ListN.{length, drop, length-drop}
+use borrow.Author.Needs.{needs}
+use borrow.Author.Tests.{eq-eqb}
+use Rattle.answers.specs.Table.{four}
+use Rattle.answers.specs.Effect.{tested}
+use Rattle.answers.proofs.Lists.{to-end}
+use Rattle.messages.specs.Kinds.{Short, countOf}
+use Rattle.messages.specs.Judge.{operandRows}
+use Rattle.messages.proofs.Verdicts.{kind-length, kind-stopped, kind-done, of-short}
+use Rattle.messages.proofs.shorts.judge_short.Statement.{statement}
+use Rattle.messages.proofs.shorts.judge_short.Tie as tie
+
+returns : tie.Need-returns
+returns c =
+    let start = c .before .before .before .before in
+    c .refused-by .ensures ∙ kind-length (of-short (start .args .kind) (start .pre) (start .args .content .now)) (c .before .if1 .taken)
+
+abbrev kind : tie.After-test-operands → Short
+kind t = t .before .before .before .before .before .args .kind
+
+abbrev content : tie.After-test-operands → List ℕ
+content t = t .before .before .before .before .before .args .content .now
+
+-- The length is right, so the count is: what the bytes are answered is what the rows are.
+answered : (t : tie.After-test-operands) → t .test-operands .result ≡ tested (operandRows (kind t .operands) (drop 3 (content t)))
+answered t =
+    let count : length (drop 3 (content t)) ≡ countOf (kind t .operands) =
+    omega (arith, length-drop 3 (content t), t .before .before .if1 .left, t .before .before .before .before .before .pre .0) in
+    rw (to-end 3 (content t), eq-eqb (length (drop 3 (content t))) (countOf (kind t .operands)) count) at (t .test-operands .ensures)
+
+returns-2 : tie.Need-returns-2
+returns-2 c =
+    let t = c .before .before .before in
+    c .refused .ensures ∙ kind-stopped (of-short (kind t) (t .before .before .before .before .before .pre) (content t)) (t .before .before .if1 .left) (answered t) (c .before .if2 .taken)
+
+returns-3 : tie.Need-returns-3
+returns-3 c =
+    let t = c .before .before .before .before in
+    let bytes = c .before .first-four .ensures ∙ ap four (to-end 3 (content t)) in
+    c .accepted .ensures
+    ∙ rw bytes (kind-done (of-short (kind t) (t .before .before .before .before .before .pre) (content t)) (t .before .before .if1 .left) (answered t) (c .before .before .if2 .left))
+
+pub judge-short-spec : {M : Type 1} → statement M
+judge-short-spec =
+    tie.close
+    (tie.spec
+    (λ c. search needs)
+    (λ c κs. search needs)
+    returns
+    (λ c. omega (arith, c .before .before .before .pre .0))
+    (λ c. omega (arith, c .before .before .before .pre .0))
+    (λ c. omega (arith, c .before .before .before .pre .0))
+    (λ c κs. search needs)
+    (λ c κs. search needs)
+    returns-2
+    (λ c κs. search needs)
+    (λ c κs. search needs)
+    returns-3)

@@ -1,0 +1,57 @@
+-- Reports in lent room, their numbers one after the other.
+use mathlib.Core.Path.{_≡_}
+use mathlib.Core.List.{List, [], _∷_, _++_}
+use Prim.Native.Nat.{ℕ, zero, suc, _*_, _/_, _≤_}
+use lib.ListN.{length, take, drop}
+use Rattle.answers.specs.Table.{outcomeOf}
+use Rattle.frames.specs.Stream.{Report, reports}
+use Rattle.frames.specs.Scan.{outside, scan}
+use Rattle.messages.specs.Judge.{judge}
+use Rattle.reading.specs.declared.listing.Listed.{Listed}
+
+-- A report's numbers, and how many they are.
+abbrev pub numbersOf : Report → List ℕ
+numbersOf r = r .start ∷ r .end ∷ outcomeOf (r .verdict) .answer ∷ outcomeOf (r .verdict) .detail ∷ []
+
+abbrev pub width : ℕ
+width = 4
+
+unfoldable pub flat : List Report → List ℕ
+flat [] = []
+flat (r ∷ rs) = numbersOf r ++ flat rs
+
+-- As many reports as a room has place for.
+abbrev pub fitting : List ℕ → List Report → List Report
+fitting room rs = take (length room / width) rs
+
+-- The reports rs stand at the start of a room, the numbers behind them are kept, and n is how many reports they are.
+pub record Holds (rs : List Report) (old new : List ℕ) (n : ℕ) : Type 0 where
+  pub count : n ≡ length rs
+  pub numbers : new ≡ flat rs ++ drop (width * length rs) old
+
+-- The end of the last of some reports; the place p where there is none.
+unfoldable pub endOf : ℕ → List Report → ℕ
+endOf p [] = p
+endOf p (r ∷ rs) = endOf (r .end) rs
+
+-- One call makes at most so many.
+abbrev pub most : ℕ
+most = 8
+
+-- The reports from a place on that one call makes: as many as the room has place for, at most 8.
+unfoldable pub made : List ℕ → ℕ → List ℕ → List Report
+made s place room = take most (fitting room (scan judge place outside (drop place s)))
+
+-- What one call gives: the reports, and the end of the last, from where to go on.
+pub record Makes (s : List ℕ) (place : ℕ) (old new : List ℕ) (r : Listed) : Type 0 where
+  pub holds : Holds (made s place old) old new (r .count)
+  pub next : r .next ≡ endOf place (made s place old)
+
+-- The reports of n calls from a place on, each next call from the end of the last report.
+abbrev pub reportsByCalls : ℕ → List ℕ → ℕ → List ℕ → List Report
+reportsByCalls zero s place room = []
+reportsByCalls (suc n) s place room = made s place room ++ reportsByCalls n s (endOf place (made s place room)) room
+
+-- Calls from 0 on, with room for a report, make the reports of the stream: as many calls as there are bytes are enough.
+abbrev pub CallsMakeReports : Type 0
+CallsMakeReports = (s room : List ℕ) → width ≤ length room → (n : ℕ) → length s ≤ n → reportsByCalls n s 0 room ≡ reports judge s
