@@ -82,13 +82,14 @@ fn reports(name: &'static str, input: Vec<u8>) -> Job {
             let (mut all, mut place) = (0, 0);
             loop {
                 let made = ffi::reports(input, place, room.as_flattened_mut());
+                // The end of the last is the place to go on from, and known before the call is over.
                 for &[start, end, answer, detail] in &room[..made.count] {
                     all = add(all, start ^ end ^ answer ^ detail);
+                    place = end;
                 }
                 if made.count == 0 {
                     return all;
                 }
-                place = made.next;
             }
         }),
         plain: Box::new(move || {
