@@ -1,16 +1,13 @@
-/* Oberheim Matrix-1000 system exclusive dumps: reading, testing, editing and writing.
+/* Oberheim Matrix-1000 and Matrix-6R system exclusive dumps: reading, testing, editing and writing.
  *
- * The face for C and C++ of a library that is proved. Link libexports.a.
+ * The face for C and C++ of a library that is proved. The library is libexports.a, which
+ * `rt staticlib exports` makes in the repository that this header comes from; `make -C c install`
+ * puts both where a compiler finds them, the library as libmatrix1000.a.
  *
  * What holds of every function:
  *
- * - A slice is a pointer to its first element and its length in elements. The pointer is never NULL,
- *   of an empty slice neither; size_t slices are aligned. No slice that a call may write overlaps
- *   another slice of the same call.
- * - A function with `numbers` puts its results at their start, in the order that the comment names,
- *   and returns the answer as well. Numbers behind the results keep their values. Where `numbers` is
- *   too short for them, MATRIX_NO_ROOM is returned before anything else is tested, and nothing at all
- *   is changed.
+ * - A slice is a pointer to its first element and its length in elements. The pointer of an empty
+ *   slice may be NULL. No slice that a call may write overlaps another slice of the same call.
  * - Where several refusals apply, the first in the order that the comment names is given. Details are
  *   0 where the comment names none.
  * - Refused: every byte lent keeps its value. Done: bytes behind the output keep theirs.
@@ -26,34 +23,38 @@
 extern "C" {
 #endif
 
-/* The answers. */
-#define MATRIX_DONE 0          /* done */
-#define MATRIX_NO_MESSAGE 1    /* no F0H at or after the place */
-#define MATRIX_CUT 2           /* the input ends inside the message */
-#define MATRIX_INTERRUPTED 3   /* another status byte stands inside the message */
-#define MATRIX_OTHER_MAKER 4   /* the first byte after F0H is not 10H */
-#define MATRIX_OTHER_DEVICE 5  /* the next is not 06H */
-#define MATRIX_OTHER_OPCODE 6  /* the opcode is not among the five */
-#define MATRIX_WRONG_LENGTH 7  /* of a message, or of a lent patch, bank, master or name */
-#define MATRIX_NOT_ALLOWED 8   /* patch number, version, zero of 0DH, parameter, bus, name character;
-                                  a value or amount byte above 127 */
-#define MATRIX_WIDE_DATA 9     /* a data byte above 15; detail: the first one's index in the data */
-#define MATRIX_WRONG_SUM 10    /* the sum byte differs from the computed sum */
-#define MATRIX_OUT_OF_RANGE 11 /* a field out of range; detail: the lowest such byte place */
-#define MATRIX_HALF_USED 12    /* a bus half used; detail: the lowest such bus */
-#define MATRIX_NO_ROOM 13      /* the lent output is too short */
-#define MATRIX_WRONG_AMOUNT 14 /* an amount outside -64..63 after extension */
+/* The answers: those of the printed card. */
+enum matrix_answer {
+    MATRIX_DONE = 0,
+    MATRIX_NO_MESSAGE = 1,    /* no F0H at or after the place */
+    MATRIX_CUT = 2,           /* the input ends inside the message */
+    MATRIX_INTERRUPTED = 3,   /* another status byte stands inside the message */
+    MATRIX_OTHER_MAKER = 4,   /* the first byte after F0H is not 10H */
+    MATRIX_OTHER_DEVICE = 5,  /* the next is not 06H */
+    MATRIX_OTHER_OPCODE = 6,  /* the opcode is not among the five */
+    MATRIX_WRONG_LENGTH = 7,  /* of a message, or of a lent patch, bank, master or name */
+    MATRIX_NOT_ALLOWED = 8,   /* patch number, version, zero of 0DH, parameter, bus, name character;
+                                 a value or amount byte above 127 */
+    MATRIX_WIDE_DATA = 9,     /* a data byte above 15; detail: the first one's index in the data */
+    MATRIX_WRONG_SUM = 10,    /* the sum byte differs from the computed sum */
+    MATRIX_OUT_OF_RANGE = 11, /* a field out of range; detail: the lowest such byte place */
+    MATRIX_HALF_USED = 12,    /* a bus half used; detail: the lowest such bus */
+    MATRIX_NO_ROOM = 13,      /* the lent output is too short */
+    MATRIX_WRONG_AMOUNT = 14  /* an amount outside -64..63 after extension */
+};
 
 /* The opcodes: the detail of a message that is read with answer 0. */
-#define MATRIX_OPCODE_PATCH 0x01       /* single patch */
-#define MATRIX_OPCODE_MASTER 0x03      /* master parameters */
-#define MATRIX_OPCODE_EDIT 0x06        /* remote edit */
-#define MATRIX_OPCODE_BUS_EDIT 0x0B    /* matrix modulation edit */
-#define MATRIX_OPCODE_EDIT_BUFFER 0x0D /* patch to edit buffer */
+enum matrix_opcode {
+    MATRIX_OPCODE_PATCH = 0x01,      /* single patch */
+    MATRIX_OPCODE_MASTER = 0x03,     /* master parameters */
+    MATRIX_OPCODE_EDIT = 0x06,       /* remote edit */
+    MATRIX_OPCODE_BUS_EDIT = 0x0B,   /* matrix modulation edit */
+    MATRIX_OPCODE_EDIT_BUFFER = 0x0D /* patch to edit buffer */
+};
 
 /* Lengths: of what is lent, and of what is written. */
 #define MATRIX_PATCH_BYTES 134
-#define MATRIX_MASTER_BYTES 172
+#define MATRIX_MASTER_BYTES 172 /* the most that matrix_read puts into its buffer */
 #define MATRIX_NAME_BYTES 8
 #define MATRIX_BANK_PATCHES 100
 #define MATRIX_PATCH_MESSAGE 275 /* of a single patch, and of one to the edit buffer */
@@ -61,45 +62,73 @@ extern "C" {
 #define MATRIX_EDIT_MESSAGE 7
 #define MATRIX_BUS_EDIT_MESSAGE 9
 
-/* matrix_reports makes at most this many reports a call. */
+/* matrix_reports makes at most this many reports a call, of so many numbers each. */
 #define MATRIX_REPORTS 8
+#define MATRIX_REPORT_NUMBERS 4
 
 /* matrix_place_of and matrix_parameter_of where there is none. */
 #define MATRIX_NONE 255
+
+/* What a call came to. */
+typedef struct matrix_outcome {
+    uint8_t answer; /* an enum matrix_answer */
+    size_t detail;
+} matrix_outcome;
+
+/* What is said of a message. */
+typedef struct matrix_report {
+    size_t start; /* the place of its F0H */
+    size_t end;   /* the place behind it, from which the next call goes on */
+    matrix_outcome outcome;
+} matrix_report;
+
+/* The same, with four bytes that come with the message, as received: a patch's number, a remote
+ * edit's parameter and value, a modulation edit's bus, source, amount and destination; zero where the
+ * message has none and with every answer but 0. */
+typedef struct matrix_reading {
+    matrix_report report;
+    uint8_t bytes[4];
+} matrix_reading;
+
+/* What writing a bank came to; the place is a patch's number. */
+typedef struct matrix_bank_outcome {
+    matrix_outcome outcome;
+    size_t place;
+} matrix_bank_outcome;
+
+/* How many reports were made, and the place to go on from: the end of the last, or the place that the
+ * call was given where none was made. */
+typedef struct matrix_listed {
+    size_t count;
+    size_t next;
+} matrix_listed;
 
 /* Finds the first message of the input `s` that starts at `place` or later. Real-time bytes, F8H to
  * FFH, may stand anywhere inside a message: they are dropped before its bytes are looked at, counted
  * or indexed, but start and end are places of the input with them. A message ends behind its F7H; one
  * that is cut (2), at s_len; one that is interrupted (3), at the status byte that interrupts it.
- * Numbers: start, end, answer, detail.
  * Answers: 1 (start and end are then s_len; so for a place past the end), 2, 3, 4, 5, 6, 7, 8, 14, 9,
- * 10, 11, 12, in this order; 0 with the opcode as detail. The next walk goes on from the end. */
-uint8_t matrix_walk(const uint8_t *s, size_t s_len, size_t place,
-                    size_t *numbers, size_t numbers_len);
+ * 10, 11, 12, in this order; 0 with the opcode as detail. */
+matrix_report matrix_walk(const uint8_t *s, size_t s_len, size_t place);
 
 /* Reads the record of the first message of the input `s` that starts at `place` or later.
- * Numbers: start, end, answer, detail, and four bytes that come with the message: a patch's number, a
- * remote edit's parameter and value, a modulation edit's bus, source, amount and destination, as
- * received; zero where the message has none and with every answer but 0.
  * Answers: as matrix_walk, then 13 where the buffer is shorter than the packed bytes.
  * Written: a dump's packed bytes, 134 or 172, at the start of the buffer with answer 0. An edit needs
  * no buffer. The rest of the buffer is kept, all of it with every other answer. */
-uint8_t matrix_read(const uint8_t *s, size_t s_len, size_t place,
-                    uint8_t *buffer, size_t buffer_len,
-                    size_t *numbers, size_t numbers_len);
+matrix_reading matrix_read(const uint8_t *s, size_t s_len, size_t place,
+                           uint8_t *buffer, size_t buffer_len);
 
-/* Lists the messages of the input `s` that start at `place` or later, as walks would from each end.
- * Returns how many reports were made: as many as there are and as the room takes, at most 8. To go
- * on, call again from the end of the last. 0, with room for one, says that there are no more.
- * Written: start, end, answer, detail of each report, at the start of the room. Numbers behind them
- * are kept. */
-size_t matrix_reports(const uint8_t *s, size_t s_len, size_t place,
-                      size_t *room, size_t room_len);
+/* Lists the messages of the input `s` that start at `place` or later, as walks would from each end:
+ * as many reports as there are and as the room takes, at most MATRIX_REPORTS. To go on, call again
+ * from `next`. None made, with room for one, says that there are no more.
+ * Written: four numbers for each report, start, end, answer and detail, at the start of the room;
+ * matrix_listed_report takes them from there. Numbers behind them are kept. */
+matrix_listed matrix_reports(const uint8_t *s, size_t s_len, size_t place,
+                             size_t *room, size_t room_len);
 
 /* Tests a patch.
- * Numbers: answer, detail. Answers: 7, 11, 12; 0 with detail 0. No byte is written. */
-uint8_t matrix_test_patch(const uint8_t *p, size_t p_len,
-                          size_t *numbers, size_t numbers_len);
+ * Answers: 7, 11, 12; 0. No byte is written. */
+matrix_outcome matrix_test_patch(const uint8_t *p, size_t p_len);
 
 /* The byte place of a parameter, 8 to 103, or MATRIX_NONE. */
 uint8_t matrix_place_of(uint8_t parameter);
@@ -108,73 +137,296 @@ uint8_t matrix_place_of(uint8_t parameter);
 uint8_t matrix_parameter_of(uint8_t place);
 
 /* Sets the name of a patch to a text of eight bytes, each 32 to 95.
- * Numbers: answer, detail. Answers: 7 for the patch, 7 and 8 for the text, 11 and 12 for the patch as
- * it was; 0 with detail 0.
+ * Answers: 7 for the patch, 7 and 8 for the text, 11 and 12 for the patch as it was; 0.
  * Written: bytes 0 to 7 of the patch with answer 0. */
-uint8_t matrix_set_name(uint8_t *p, size_t p_len, const uint8_t *text, size_t text_len,
-                        size_t *numbers, size_t numbers_len);
+matrix_outcome matrix_set_name(uint8_t *p, size_t p_len, const uint8_t *text, size_t text_len);
 
 /* Shows the name of a patch as a text of eight bytes, without a zero behind it.
- * Numbers: answer, detail. Answers: 7, 11, 12, 13; 0 with detail 8.
+ * Answers: 7, 11, 12, 13; 0 with detail 8.
  * Written: the first eight bytes of the output with answer 0. */
-uint8_t matrix_show_name(const uint8_t *p, size_t p_len, uint8_t *out, size_t out_len,
-                         size_t *numbers, size_t numbers_len);
+matrix_outcome matrix_show_name(const uint8_t *p, size_t p_len, uint8_t *out, size_t out_len);
 
-/* Applies a remote edit to a patch: a parameter, and seven bits of value.
- * Numbers: answer, detail. Answers: 8 and 11 for the edit, then 7, 11 and 12 for the patch as it was;
- * 0 with detail 0.
+/* Applies a remote edit to a patch: a parameter, and seven bits of value, `v & 0x7F` for a value v.
+ * Answers: 8 and 11 for the edit, then 7, 11 and 12 for the patch as it was; 0.
  * Written: the parameter's byte with answer 0. */
-uint8_t matrix_apply_edit(uint8_t *p, size_t p_len, uint8_t parameter, uint8_t value,
-                          size_t *numbers, size_t numbers_len);
+matrix_outcome matrix_apply_edit(uint8_t *p, size_t p_len, uint8_t parameter, uint8_t value);
 
 /* Applies a matrix modulation edit to a patch: a bus, 0 to 9, its source, seven bits of amount, and
  * its destination.
- * Numbers: answer, detail. Answers: 8, 14, 11 and 12 for the edit, then 7, 11 and 12 for the patch as
- * it was; 0 with detail 0.
+ * Answers: 8, 14, 11 and 12 for the edit, then 7, 11 and 12 for the patch as it was; 0.
  * Written: the three bytes of the bus with answer 0. */
-uint8_t matrix_apply_bus_edit(uint8_t *p, size_t p_len, uint8_t bus, uint8_t source,
-                              uint8_t amount, uint8_t destination,
-                              size_t *numbers, size_t numbers_len);
+matrix_outcome matrix_apply_bus_edit(uint8_t *p, size_t p_len,
+                                     uint8_t bus, uint8_t source, uint8_t amount, uint8_t destination);
 
 /* Writes a patch as a single patch message (01H) with its number, 0 to 99.
- * Numbers: answer, detail. Answers: 7, 8, 11, 12, 13; 0 with detail 275.
+ * Answers: 7, 8, 11, 12, 13; 0 with detail 275.
  * Written: the first 275 bytes of the output with answer 0. */
-uint8_t matrix_write_patch(uint8_t number, const uint8_t *p, size_t p_len,
-                           uint8_t *out, size_t out_len,
-                           size_t *numbers, size_t numbers_len);
+matrix_outcome matrix_write_patch(uint8_t number, const uint8_t *p, size_t p_len,
+                                  uint8_t *out, size_t out_len);
 
 /* Writes a patch as a message to the edit buffer (0DH).
- * Numbers: answer, detail. Answers: 7, 11, 12, 13; 0 with detail 275.
+ * Answers: 7, 11, 12, 13; 0 with detail 275.
  * Written: the first 275 bytes of the output with answer 0. */
-uint8_t matrix_write_edit_buffer(const uint8_t *p, size_t p_len, uint8_t *out, size_t out_len,
-                                 size_t *numbers, size_t numbers_len);
+matrix_outcome matrix_write_edit_buffer(const uint8_t *p, size_t p_len, uint8_t *out, size_t out_len);
 
 /* Writes a master of 172 bytes as a message (03H, version 3).
- * Numbers: answer, detail. Answers: 7, 13; 0 with detail 351.
+ * Answers: 7, 13; 0 with detail 351.
  * Written: the first 351 bytes of the output with answer 0. */
-uint8_t matrix_write_master(const uint8_t *m, size_t m_len, uint8_t *out, size_t out_len,
-                            size_t *numbers, size_t numbers_len);
+matrix_outcome matrix_write_master(const uint8_t *m, size_t m_len, uint8_t *out, size_t out_len);
 
 /* Writes a remote edit (06H).
- * Numbers: answer, detail. Answers: 8, 11, 13; 0 with detail 7.
+ * Answers: 8, 11, 13; 0 with detail 7.
  * Written: the first 7 bytes of the output with answer 0. */
-uint8_t matrix_write_edit(uint8_t parameter, uint8_t value, uint8_t *out, size_t out_len,
-                          size_t *numbers, size_t numbers_len);
+matrix_outcome matrix_write_edit(uint8_t parameter, uint8_t value, uint8_t *out, size_t out_len);
 
 /* Writes a matrix modulation edit (0BH).
- * Numbers: answer, detail. Answers: 8, 14, 11, 12, 13; 0 with detail 9.
+ * Answers: 8, 14, 11, 12, 13; 0 with detail 9.
  * Written: the first 9 bytes of the output with answer 0. */
-uint8_t matrix_write_bus_edit(uint8_t bus, uint8_t source, uint8_t amount, uint8_t destination,
-                              uint8_t *out, size_t out_len,
-                              size_t *numbers, size_t numbers_len);
+matrix_outcome matrix_write_bus_edit(uint8_t bus, uint8_t source, uint8_t amount, uint8_t destination,
+                                     uint8_t *out, size_t out_len);
 
 /* Writes a bank: 0 to 100 patches end to end, as single patch messages end to end, numbered from 0.
- * Numbers: answer, detail, place. Answers: 7 for a length that is not a multiple of 134 or above
- * 13,400; 11 or 12 of the lowest bad patch, with its number as place; 13; 0 with the bytes written as
- * detail. The place is 0 with answers other than 11 and 12.
+ * Answers: 7 for a length that is not a multiple of 134 or above 13,400; 11 or 12 of the lowest bad
+ * patch, with its number as place; 13; 0 with the bytes written as detail. The place is 0 with answers
+ * other than 11 and 12.
  * Written: the first 275 bytes of the output for each patch with answer 0. */
-uint8_t matrix_write_bank(const uint8_t *ps, size_t ps_len, uint8_t *out, size_t out_len,
-                          size_t *numbers, size_t numbers_len);
+matrix_bank_outcome matrix_write_bank(const uint8_t *ps, size_t ps_len, uint8_t *out, size_t out_len);
+
+/* The report of this index in a room that matrix_reports filled. */
+static inline matrix_report matrix_listed_report(const size_t *room, size_t index)
+{
+    const size_t *numbers = room + index * MATRIX_REPORT_NUMBERS;
+    matrix_report report;
+    report.start = numbers[0];
+    report.end = numbers[1];
+    report.outcome.answer = numbers[2] & 0xFF;
+    report.outcome.detail = numbers[3];
+    return report;
+}
+
+/* The parameters, in the order of their bytes in a patch, named as the maker's listing names them. */
+enum matrix_parameter {
+    MATRIX_KEYBOARD_MODE = 48,               /* Keyboard Mode */
+    MATRIX_DCO_1_FREQUENCY = 0,              /* DCO 1 Initial Frequency */
+    MATRIX_DCO_1_WAVESHAPE = 5,              /* DCO 1 Initial Waveshape */
+    MATRIX_DCO_1_PULSE_WIDTH = 3,            /* DCO 1 Initial Pulse Width */
+    MATRIX_DCO_1_FIXED_MODULATIONS = 7,      /* DCO 1 Fixed Modulations (Lever 1, Vibrato) */
+    MATRIX_DCO_1_WAVEFORM_ENABLE = 6,        /* DCO 1 Waveform Enable */
+    MATRIX_DCO_2_FREQUENCY = 10,             /* DCO 2 Initial Frequency */
+    MATRIX_DCO_2_WAVESHAPE = 15,             /* DCO 2 Initial Waveshape */
+    MATRIX_DCO_2_PULSE_WIDTH = 13,           /* DCO 2 Initial Pulse Width */
+    MATRIX_DCO_2_FIXED_MODULATIONS = 17,     /* DCO 2 Fixed Modulations (Lever 1, Vibrato) */
+    MATRIX_DCO_2_WAVEFORM_ENABLE = 16,       /* DCO 2 Waveform Enable */
+    MATRIX_DCO_2_DETUNE = 12,                /* DCO 2 Detune */
+    MATRIX_MIX = 20,                         /* Mix */
+    MATRIX_DCO_1_PORTAMENTO = 8,             /* DCO 1 Fixed Modulations (Portamento) */
+    MATRIX_DCO_1_CLICK = 9,                  /* DCO 1 Click */
+    MATRIX_DCO_2_PORTAMENTO = 18,            /* DCO 2 Fixed Modulations (Portamento, Keyboard Tracking) */
+    MATRIX_DCO_2_CLICK = 19,                 /* DCO 2 Click */
+    MATRIX_DCO_SYNC_MODE = 2,                /* DCO Sync Mode */
+    MATRIX_VCF_FREQUENCY = 21,               /* VCF Initial Frequency */
+    MATRIX_VCF_RESONANCE = 24,               /* VCF Initial Resonance */
+    MATRIX_VCF_FIXED_MODULATIONS = 25,       /* VCF Fixed Modulations (Lever 1, Vibrato) */
+    MATRIX_VCF_KEYBOARD_MODULATION = 26,     /* VCF Keyboard Modulation */
+    MATRIX_VCF_FM_AMOUNT = 30,               /* VCF FM Initial Amount */
+    MATRIX_VCA_1_AMOUNT = 27,                /* VCA 1 (exponential) Initial Amount */
+    MATRIX_PORTAMENTO_RATE = 44,             /* Portamento Initial Rate */
+    MATRIX_LAG_MODE = 46,                    /* Lag Mode */
+    MATRIX_LEGATO_PORTAMENTO_ENABLE = 47,    /* Legato Portamento Enable */
+    MATRIX_LFO_1_SPEED = 80,                 /* LFO 1 Initial Speed */
+    MATRIX_LFO_1_TRIGGER = 86,               /* LFO 1 Trigger */
+    MATRIX_LFO_1_LAG_ENABLE = 87,            /* LFO 1 Lag Enable */
+    MATRIX_LFO_1_WAVESHAPE = 82,             /* LFO 1 Waveshape */
+    MATRIX_LFO_1_RETRIGGER_POINT = 83,       /* LFO 1 Retrigger Point */
+    MATRIX_LFO_1_SAMPLED_SOURCE = 88,        /* LFO 1 Sampled Source Number */
+    MATRIX_LFO_1_AMPLITUDE = 84,             /* LFO 1 Initial Amplitude */
+    MATRIX_LFO_2_SPEED = 90,                 /* LFO 2 Initial Speed */
+    MATRIX_LFO_2_TRIGGER = 96,               /* LFO 2 Trigger */
+    MATRIX_LFO_2_LAG_ENABLE = 97,            /* LFO 2 Lag Enable */
+    MATRIX_LFO_2_WAVESHAPE = 92,             /* LFO 2 Waveshape */
+    MATRIX_LFO_2_RETRIGGER_POINT = 93,       /* LFO 2 Retrigger Point */
+    MATRIX_LFO_2_SAMPLED_SOURCE = 98,        /* LFO 2 Sampled Source Number */
+    MATRIX_LFO_2_AMPLITUDE = 94,             /* LFO 2 Initial Amplitude */
+    MATRIX_ENV_1_TRIGGER_MODE = 57,          /* Env 1 Trigger Mode */
+    MATRIX_ENV_1_DELAY_TIME = 50,            /* Env 1 Initial Delay Time */
+    MATRIX_ENV_1_ATTACK_TIME = 51,           /* Env 1 Initial Attack Time */
+    MATRIX_ENV_1_DECAY_TIME = 52,            /* Env 1 Initial Decay Time */
+    MATRIX_ENV_1_SUSTAIN_LEVEL = 53,         /* Env 1 Sustain Level */
+    MATRIX_ENV_1_RELEASE_TIME = 54,          /* Env 1 Initial Release Time */
+    MATRIX_ENV_1_AMPLITUDE = 55,             /* Env 1 Initial Amplitude */
+    MATRIX_ENV_1_LFO_TRIGGER_MODE = 59,      /* Env 1 LFO Trigger Mode */
+    MATRIX_ENV_1_MODE = 58,                  /* Env 1 Mode */
+    MATRIX_ENV_2_TRIGGER_MODE = 67,          /* Env 2 Trigger Mode */
+    MATRIX_ENV_2_DELAY_TIME = 60,            /* Env 2 Initial Delay Time */
+    MATRIX_ENV_2_ATTACK_TIME = 61,           /* Env 2 Initial Attack Time */
+    MATRIX_ENV_2_DECAY_TIME = 62,            /* Env 2 Initial Decay Time */
+    MATRIX_ENV_2_SUSTAIN_LEVEL = 63,         /* Env 2 Sustain Level */
+    MATRIX_ENV_2_RELEASE_TIME = 64,          /* Env 2 Initial Release Time */
+    MATRIX_ENV_2_AMPLITUDE = 65,             /* Env 2 Initial Amplitude */
+    MATRIX_ENV_2_LFO_TRIGGER_MODE = 69,      /* Env 2 LFO Trigger Mode */
+    MATRIX_ENV_2_MODE = 68,                  /* Env 2 Mode */
+    MATRIX_ENV_3_TRIGGER_MODE = 77,          /* Env 3 Trigger Mode */
+    MATRIX_ENV_3_DELAY_TIME = 70,            /* Env 3 Initial Delay Time */
+    MATRIX_ENV_3_ATTACK_TIME = 71,           /* Env 3 Initial Attack Time */
+    MATRIX_ENV_3_DECAY_TIME = 72,            /* Env 3 Initial Decay Time */
+    MATRIX_ENV_3_SUSTAIN_LEVEL = 73,         /* Env 3 Sustain Level */
+    MATRIX_ENV_3_RELEASE_TIME = 74,          /* Env 3 Initial Release Time */
+    MATRIX_ENV_3_AMPLITUDE = 75,             /* Env 3 Initial Amplitude */
+    MATRIX_ENV_3_LFO_TRIGGER_MODE = 79,      /* Env 3 LFO Trigger Mode */
+    MATRIX_ENV_3_MODE = 78,                  /* Env 3 Mode */
+    MATRIX_TRACKING_SOURCE = 33,             /* Tracking Generator Input Source Code */
+    MATRIX_TRACKING_POINT_1 = 34,            /* Tracking Point 1 */
+    MATRIX_TRACKING_POINT_2 = 35,            /* Tracking Point 2 */
+    MATRIX_TRACKING_POINT_3 = 36,            /* Tracking Point 3 */
+    MATRIX_TRACKING_POINT_4 = 37,            /* Tracking Point 4 */
+    MATRIX_TRACKING_POINT_5 = 38,            /* Tracking Point 5 */
+    MATRIX_RAMP_1_RATE = 40,                 /* Ramp 1 Rate */
+    MATRIX_RAMP_1_MODE = 41,                 /* Ramp 1 Mode */
+    MATRIX_RAMP_2_RATE = 42,                 /* Ramp 2 Rate */
+    MATRIX_RAMP_2_MODE = 43,                 /* Ramp 2 Mode */
+    MATRIX_DCO_1_FREQUENCY_BY_LFO_1 = 1,     /* DCO 1 Frequency by LFO 1 Amount */
+    MATRIX_DCO_1_PW_BY_LFO_2 = 4,            /* DCO 1 PW by LFO 2 Amount */
+    MATRIX_DCO_2_FREQUENCY_BY_LFO_1 = 11,    /* DCO 2 Frequency by LFO 1 Amount */
+    MATRIX_DCO_2_PW_BY_LFO_2 = 14,           /* DCO 2 PW by LFO 2 Amount */
+    MATRIX_VCF_FREQUENCY_BY_ENV_1 = 22,      /* VCF Frequency by Env 1 Amount */
+    MATRIX_VCF_FREQUENCY_BY_PRESSURE = 23,   /* VCF Frequency by Pressure Amount */
+    MATRIX_VCA_1_BY_VELOCITY = 28,           /* VCA 1 by Velocity Amount */
+    MATRIX_VCA_2_BY_ENV_2 = 29,              /* VCA 2 by Env 2 Amount */
+    MATRIX_ENV_1_AMPLITUDE_BY_VELOCITY = 56, /* Env 1 Amplitude by Velocity Amount */
+    MATRIX_ENV_2_AMPLITUDE_BY_VELOCITY = 66, /* Env 2 Amplitude by Velocity Amount */
+    MATRIX_ENV_3_AMPLITUDE_BY_VELOCITY = 76, /* Env 3 Amplitude by Velocity Amount */
+    MATRIX_LFO_1_AMPLITUDE_BY_RAMP_1 = 85,   /* LFO 1 Amplitude by Ramp 1 Amount */
+    MATRIX_LFO_2_AMPLITUDE_BY_RAMP_2 = 95,   /* LFO 2 Amplitude by Ramp 2 Amount */
+    MATRIX_PORTAMENTO_RATE_BY_VELOCITY = 45, /* Portamento Rate by Velocity Amount */
+    MATRIX_VCF_FM_AMOUNT_BY_ENV_3 = 31,      /* VCF FM Amount by Env 3 Amount */
+    MATRIX_VCF_FM_AMOUNT_BY_PRESSURE = 32,   /* VCF FM Amount by Pressure Amount */
+    MATRIX_LFO_1_SPEED_BY_PRESSURE = 81,     /* LFO 1 Speed by Pressure Amount */
+    MATRIX_LFO_2_SPEED_BY_KEYBOARD = 91      /* LFO 2 Speed by Keyboard Amount */
+};
+
+/* From here on the names above are those of the functions below, by which the pointer of an empty
+ * slice may be NULL: the library itself is always given an address. */
+
+static inline const uint8_t *matrix_input_(const uint8_t *bytes, size_t length)
+{
+    static const uint8_t none[1] = {0};
+    return length == 0 ? none : bytes;
+}
+
+static inline uint8_t *matrix_output_(uint8_t *bytes, size_t length)
+{
+    static uint8_t none[1] = {0};
+    return length == 0 ? none : bytes;
+}
+
+static inline size_t *matrix_room_(size_t *numbers, size_t length)
+{
+    static size_t none[1] = {0};
+    return length == 0 ? none : numbers;
+}
+
+static inline matrix_report matrix_walk_(const uint8_t *s, size_t s_len, size_t place)
+{
+    return matrix_walk(matrix_input_(s, s_len), s_len, place);
+}
+#define matrix_walk matrix_walk_
+
+static inline matrix_reading matrix_read_(const uint8_t *s, size_t s_len, size_t place,
+                                          uint8_t *buffer, size_t buffer_len)
+{
+    return matrix_read(matrix_input_(s, s_len), s_len, place,
+                       matrix_output_(buffer, buffer_len), buffer_len);
+}
+#define matrix_read matrix_read_
+
+static inline matrix_listed matrix_reports_(const uint8_t *s, size_t s_len, size_t place,
+                                            size_t *room, size_t room_len)
+{
+    return matrix_reports(matrix_input_(s, s_len), s_len, place,
+                          matrix_room_(room, room_len), room_len);
+}
+#define matrix_reports matrix_reports_
+
+static inline matrix_outcome matrix_test_patch_(const uint8_t *p, size_t p_len)
+{
+    return matrix_test_patch(matrix_input_(p, p_len), p_len);
+}
+#define matrix_test_patch matrix_test_patch_
+
+static inline matrix_outcome matrix_set_name_(uint8_t *p, size_t p_len,
+                                              const uint8_t *text, size_t text_len)
+{
+    return matrix_set_name(matrix_output_(p, p_len), p_len, matrix_input_(text, text_len), text_len);
+}
+#define matrix_set_name matrix_set_name_
+
+static inline matrix_outcome matrix_show_name_(const uint8_t *p, size_t p_len,
+                                               uint8_t *out, size_t out_len)
+{
+    return matrix_show_name(matrix_input_(p, p_len), p_len, matrix_output_(out, out_len), out_len);
+}
+#define matrix_show_name matrix_show_name_
+
+static inline matrix_outcome matrix_apply_edit_(uint8_t *p, size_t p_len,
+                                                uint8_t parameter, uint8_t value)
+{
+    return matrix_apply_edit(matrix_output_(p, p_len), p_len, parameter, value);
+}
+#define matrix_apply_edit matrix_apply_edit_
+
+static inline matrix_outcome matrix_apply_bus_edit_(uint8_t *p, size_t p_len, uint8_t bus,
+                                                    uint8_t source, uint8_t amount,
+                                                    uint8_t destination)
+{
+    return matrix_apply_bus_edit(matrix_output_(p, p_len), p_len, bus, source, amount, destination);
+}
+#define matrix_apply_bus_edit matrix_apply_bus_edit_
+
+static inline matrix_outcome matrix_write_patch_(uint8_t number, const uint8_t *p, size_t p_len,
+                                                 uint8_t *out, size_t out_len)
+{
+    return matrix_write_patch(number, matrix_input_(p, p_len), p_len,
+                              matrix_output_(out, out_len), out_len);
+}
+#define matrix_write_patch matrix_write_patch_
+
+static inline matrix_outcome matrix_write_edit_buffer_(const uint8_t *p, size_t p_len,
+                                                       uint8_t *out, size_t out_len)
+{
+    return matrix_write_edit_buffer(matrix_input_(p, p_len), p_len,
+                                    matrix_output_(out, out_len), out_len);
+}
+#define matrix_write_edit_buffer matrix_write_edit_buffer_
+
+static inline matrix_outcome matrix_write_master_(const uint8_t *m, size_t m_len,
+                                                  uint8_t *out, size_t out_len)
+{
+    return matrix_write_master(matrix_input_(m, m_len), m_len, matrix_output_(out, out_len), out_len);
+}
+#define matrix_write_master matrix_write_master_
+
+static inline matrix_outcome matrix_write_edit_(uint8_t parameter, uint8_t value,
+                                                uint8_t *out, size_t out_len)
+{
+    return matrix_write_edit(parameter, value, matrix_output_(out, out_len), out_len);
+}
+#define matrix_write_edit matrix_write_edit_
+
+static inline matrix_outcome matrix_write_bus_edit_(uint8_t bus, uint8_t source, uint8_t amount,
+                                                    uint8_t destination,
+                                                    uint8_t *out, size_t out_len)
+{
+    return matrix_write_bus_edit(bus, source, amount, destination,
+                                 matrix_output_(out, out_len), out_len);
+}
+#define matrix_write_bus_edit matrix_write_bus_edit_
+
+static inline matrix_bank_outcome matrix_write_bank_(const uint8_t *ps, size_t ps_len,
+                                                     uint8_t *out, size_t out_len)
+{
+    return matrix_write_bank(matrix_input_(ps, ps_len), ps_len, matrix_output_(out, out_len), out_len);
+}
+#define matrix_write_bank matrix_write_bank_
 
 #ifdef __cplusplus
 }

@@ -1,4 +1,5 @@
-/* Uses every function of matrix.h on document 01's examples; prints one line when all hold. */
+/* Uses every function of matrix.h on document 01's examples, and with empty slices at NULL; prints one
+ * line when all hold. It is C and C++. */
 #include "matrix.h"
 
 #include <stdio.h>
@@ -22,20 +23,25 @@ static void hold(int holds, const char *what, int line)
 
 #define HOLDS(what) hold((what), #what, __LINE__)
 
-static size_t n[16];
-
-/* Numbers as they were before any call. */
-static size_t *fresh(void)
+/* The one place where an outcome is held against what is expected. */
+static int gave(matrix_outcome outcome, uint8_t answer, size_t detail)
 {
-    for (size_t i = 0; i < 16; i++)
-        n[i] = FILL_NUMBER;
-    return n;
+    return outcome.answer == answer && outcome.detail == detail;
 }
 
-/* Whether the call gave this answer and this detail, and kept the numbers behind them. */
-static int gave(uint8_t returned, size_t answer, size_t detail)
+static int done(matrix_outcome outcome, size_t detail)
 {
-    return returned == answer && n[0] == answer && n[1] == detail && n[2] == FILL_NUMBER;
+    return gave(outcome, MATRIX_DONE, detail);
+}
+
+static int says(matrix_report report, size_t start, size_t end, uint8_t answer, size_t detail)
+{
+    return report.start == start && report.end == end && gave(report.outcome, answer, detail);
+}
+
+static int bank_gave(matrix_bank_outcome bank, uint8_t answer, size_t detail, size_t place)
+{
+    return gave(bank.outcome, answer, detail) && bank.place == place;
 }
 
 static int all_are(const uint8_t *bytes, size_t from, size_t to, uint8_t byte)
@@ -46,6 +52,11 @@ static int all_are(const uint8_t *bytes, size_t from, size_t to, uint8_t byte)
     return 1;
 }
 
+static const uint8_t *text(const char *characters)
+{
+    return (const uint8_t *)characters;
+}
+
 /* P of document 01: zeros, with byte 76 = 1. */
 static void make_p(uint8_t p[MATRIX_PATCH_BYTES])
 {
@@ -53,29 +64,41 @@ static void make_p(uint8_t p[MATRIX_PATCH_BYTES])
     p[76] = 1;
 }
 
+/* The input of document 01's listing. */
+static const uint8_t listed[] = {0x41, 0xF0, 0xF7, 0xF0, 0x10, 0x06,
+                                 0x06, 0x15, 0x7F, 0xF7, 0xF0};
+
 static void test_walking(void)
 {
-    static const uint8_t s[] = {0x41, 0xF0, 0xF7, 0xF0, 0x10, 0x06, 0x06, 0x15, 0x7F, 0xF7, 0xF0};
-    static const size_t listing[3][4] = {{1, 3, 4, 0}, {3, 10, 0, 6}, {10, 11, 2, 0}};
-    size_t room[20];
-    size_t place = 0;
+    matrix_report report = matrix_walk(listed, sizeof listed, 0);
+    HOLDS(says(report, 1, 3, MATRIX_OTHER_MAKER, 0));
+    report = matrix_walk(listed, sizeof listed, report.end);
+    HOLDS(says(report, 3, 10, MATRIX_DONE, MATRIX_OPCODE_EDIT));
+    report = matrix_walk(listed, sizeof listed, report.end);
+    HOLDS(says(report, 10, 11, MATRIX_CUT, 0));
+    report = matrix_walk(listed, sizeof listed, report.end);
+    HOLDS(says(report, 11, 11, MATRIX_NO_MESSAGE, 0));
+    HOLDS(says(matrix_walk(listed, sizeof listed, SIZE_MAX), 11, 11, MATRIX_NO_MESSAGE, 0));
+}
 
-    for (size_t i = 0; i < 3; i++) {
-        HOLDS(matrix_walk(s, sizeof s, place, fresh(), 5) == listing[i][2]);
-        HOLDS(memcmp(n, listing[i], sizeof listing[i]) == 0 && n[4] == FILL_NUMBER);
-        place = n[1];
-    }
-    HOLDS(matrix_walk(s, sizeof s, place, fresh(), 4) == MATRIX_NO_MESSAGE);
-    HOLDS(n[0] == sizeof s && n[1] == sizeof s && n[2] == MATRIX_NO_MESSAGE && n[3] == 0);
-    HOLDS(matrix_walk(s, sizeof s, SIZE_MAX, fresh(), 4) == MATRIX_NO_MESSAGE);
-    HOLDS(matrix_walk(s, sizeof s, 0, fresh(), 3) == MATRIX_NO_ROOM && n[0] == FILL_NUMBER);
+static void test_reports(void)
+{
+    size_t room[5 * MATRIX_REPORT_NUMBERS];
 
-    for (size_t i = 0; i < 20; i++)
+    for (size_t i = 0; i < 5 * MATRIX_REPORT_NUMBERS; i++)
         room[i] = FILL_NUMBER;
-    HOLDS(matrix_reports(s, sizeof s, 0, room, 20) == 3);
-    HOLDS(memcmp(room, listing, sizeof listing) == 0 && room[12] == FILL_NUMBER);
-    HOLDS(matrix_reports(s, sizeof s, room[9], room, 20) == 0);
-    HOLDS(matrix_reports(s, sizeof s, 0, room, 3) == 0);
+    matrix_listed made = matrix_reports(listed, sizeof listed, 0, room, 5 * MATRIX_REPORT_NUMBERS);
+    HOLDS(made.count == 3 && made.next == 11);
+    HOLDS(says(matrix_listed_report(room, 0), 1, 3, MATRIX_OTHER_MAKER, 0));
+    HOLDS(says(matrix_listed_report(room, 1), 3, 10, MATRIX_DONE, MATRIX_OPCODE_EDIT));
+    HOLDS(says(matrix_listed_report(room, 2), 10, 11, MATRIX_CUT, 0));
+    for (size_t i = 3 * MATRIX_REPORT_NUMBERS; i < 5 * MATRIX_REPORT_NUMBERS; i++)
+        HOLDS(room[i] == FILL_NUMBER);
+
+    made = matrix_reports(listed, sizeof listed, 11, room, 5 * MATRIX_REPORT_NUMBERS);
+    HOLDS(made.count == 0 && made.next == 11);
+    made = matrix_reports(listed, sizeof listed, 2, room, MATRIX_REPORT_NUMBERS - 1);
+    HOLDS(made.count == 0 && made.next == 2);
 }
 
 static void test_reading(void)
@@ -83,36 +106,40 @@ static void test_reading(void)
     uint8_t p[MATRIX_PATCH_BYTES], dump[MATRIX_PATCH_MESSAGE], buffer[MATRIX_PATCH_BYTES + 1];
 
     make_p(p);
-    HOLDS(matrix_write_patch(99, p, sizeof p, dump, sizeof dump, fresh(), 2) == MATRIX_DONE);
+    HOLDS(done(matrix_write_patch(99, p, sizeof p, dump, sizeof dump), 275));
     memset(buffer, FILL_BYTE, sizeof buffer);
-    HOLDS(matrix_read(dump, sizeof dump, 0, buffer, MATRIX_PATCH_BYTES - 1, fresh(), 8)
-          == MATRIX_NO_ROOM);
-    HOLDS(n[0] == 0 && n[1] == sizeof dump && n[3] == 0 && n[4] == 0);
+    matrix_reading r = matrix_read(dump, sizeof dump, 0, buffer, MATRIX_PATCH_BYTES - 1);
+    HOLDS(says(r.report, 0, sizeof dump, MATRIX_NO_ROOM, 0) && all_are(r.bytes, 0, 4, 0));
     HOLDS(all_are(buffer, 0, sizeof buffer, FILL_BYTE));
-    HOLDS(matrix_read(dump, sizeof dump, 0, buffer, sizeof buffer, fresh(), 9) == MATRIX_DONE);
-    HOLDS(n[2] == MATRIX_DONE && n[3] == MATRIX_OPCODE_PATCH && n[4] == 99);
-    HOLDS(n[5] == 0 && n[6] == 0 && n[7] == 0 && n[8] == FILL_NUMBER);
+    r = matrix_read(dump, sizeof dump, 0, buffer, sizeof buffer);
+    HOLDS(says(r.report, 0, sizeof dump, MATRIX_DONE, MATRIX_OPCODE_PATCH));
+    HOLDS(r.bytes[0] == 99 && all_are(r.bytes, 1, 4, 0));
     HOLDS(memcmp(buffer, p, sizeof p) == 0 && buffer[sizeof p] == FILL_BYTE);
 
     dump[273] ^= 1;
-    HOLDS(matrix_read(dump, sizeof dump, 0, buffer, sizeof buffer, fresh(), 8)
-          == MATRIX_WRONG_SUM);
-    HOLDS(matrix_read(dump, sizeof dump, 0, buffer, sizeof buffer, fresh(), 7) == MATRIX_NO_ROOM);
-    HOLDS(n[0] == FILL_NUMBER);
+    memset(buffer, FILL_BYTE, sizeof buffer);
+    r = matrix_read(dump, sizeof dump, 0, buffer, sizeof buffer);
+    HOLDS(says(r.report, 0, sizeof dump, MATRIX_WRONG_SUM, 0) && all_are(r.bytes, 0, 4, 0));
+    HOLDS(all_are(buffer, 0, sizeof buffer, FILL_BYTE));
+
+    r = matrix_read(listed, sizeof listed, 2, buffer, sizeof buffer);
+    HOLDS(says(r.report, 3, 10, MATRIX_DONE, MATRIX_OPCODE_EDIT));
+    HOLDS(r.bytes[0] == MATRIX_VCF_FREQUENCY && r.bytes[1] == 0x7F && all_are(r.bytes, 2, 4, 0));
+    HOLDS(all_are(buffer, 0, sizeof buffer, FILL_BYTE));
 }
 
 static void test_patches(void)
 {
     uint8_t p[MATRIX_PATCH_BYTES];
-    static const uint8_t zeros[MATRIX_PATCH_BYTES];
+    static const uint8_t zeros[MATRIX_PATCH_BYTES] = {0};
 
     make_p(p);
-    HOLDS(gave(matrix_test_patch(p, sizeof p, fresh(), 16), MATRIX_DONE, 0));
-    HOLDS(gave(matrix_test_patch(zeros, sizeof zeros, fresh(), 16), MATRIX_OUT_OF_RANGE, 76));
-    HOLDS(gave(matrix_test_patch(p, sizeof p - 1, fresh(), 16), MATRIX_WRONG_LENGTH, 0));
-    HOLDS(matrix_test_patch(p, sizeof p, fresh(), 1) == MATRIX_NO_ROOM && n[0] == FILL_NUMBER);
+    HOLDS(done(matrix_test_patch(p, sizeof p), 0));
+    HOLDS(gave(matrix_test_patch(zeros, sizeof zeros), MATRIX_OUT_OF_RANGE, 76));
+    HOLDS(gave(matrix_test_patch(p, sizeof p - 1), MATRIX_WRONG_LENGTH, 0));
 
-    HOLDS(matrix_place_of(21) == 26 && matrix_parameter_of(26) == 21);
+    HOLDS(matrix_place_of(MATRIX_VCF_FREQUENCY) == 26);
+    HOLDS(matrix_parameter_of(26) == MATRIX_VCF_FREQUENCY);
     HOLDS(matrix_place_of(39) == MATRIX_NONE && matrix_place_of(99) == MATRIX_NONE);
     HOLDS(matrix_parameter_of(7) == MATRIX_NONE && matrix_parameter_of(104) == MATRIX_NONE);
 }
@@ -120,24 +147,22 @@ static void test_patches(void)
 static void test_names(void)
 {
     uint8_t p[MATRIX_PATCH_BYTES], out[MATRIX_NAME_BYTES + 1], dump[MATRIX_PATCH_MESSAGE];
-    static const uint8_t text[] = "BASS 1  ";
     static const uint8_t stored[] = {2, 1, 19, 19, 32, 49, 32, 32};
 
     make_p(p);
-    HOLDS(gave(matrix_set_name(p, sizeof p, text, 7, fresh(), 16), MATRIX_WRONG_LENGTH, 0));
-    HOLDS(gave(matrix_set_name(p, sizeof p, (const uint8_t *)"bass 1  ", 8, fresh(), 16),
-               MATRIX_NOT_ALLOWED, 0));
+    HOLDS(gave(matrix_set_name(p, sizeof p, text("BASS 1"), 6), MATRIX_WRONG_LENGTH, 0));
+    HOLDS(gave(matrix_set_name(p, sizeof p, text("bass 1  "), 8), MATRIX_NOT_ALLOWED, 0));
     HOLDS(all_are(p, 0, 8, 0));
-    HOLDS(gave(matrix_set_name(p, sizeof p, text, 8, fresh(), 16), MATRIX_DONE, 0));
+    HOLDS(done(matrix_set_name(p, sizeof p, text("BASS 1  "), 8), 0));
     HOLDS(memcmp(p, stored, sizeof stored) == 0);
 
     memset(out, FILL_BYTE, sizeof out);
-    HOLDS(gave(matrix_show_name(p, sizeof p, out, 7, fresh(), 16), MATRIX_NO_ROOM, 0));
+    HOLDS(gave(matrix_show_name(p, sizeof p, out, 7), MATRIX_NO_ROOM, 0));
     HOLDS(all_are(out, 0, sizeof out, FILL_BYTE));
-    HOLDS(gave(matrix_show_name(p, sizeof p, out, sizeof out, fresh(), 16), MATRIX_DONE, 8));
-    HOLDS(memcmp(out, text, 8) == 0 && out[8] == FILL_BYTE);
+    HOLDS(done(matrix_show_name(p, sizeof p, out, sizeof out), 8));
+    HOLDS(memcmp(out, "BASS 1  ", 8) == 0 && out[8] == FILL_BYTE);
 
-    HOLDS(matrix_write_patch(0, p, sizeof p, dump, sizeof dump, fresh(), 2) == MATRIX_DONE);
+    HOLDS(done(matrix_write_patch(0, p, sizeof p, dump, sizeof dump), 275));
     HOLDS(dump[273] == 0x3B);
 }
 
@@ -148,63 +173,66 @@ static void test_edits(void)
     static const uint8_t bus[] = {0xF0, 0x10, 0x06, 0x0B, 0x09, 0x14, 0x40, 0x1F, 0xF7};
 
     make_p(p);
-    HOLDS(gave(matrix_apply_edit(p, sizeof p, 0x15, 0x7F, fresh(), 16), MATRIX_DONE, 0));
-    HOLDS(p[26] == 127);
-    HOLDS(gave(matrix_apply_edit(p, sizeof p, 0x0C, 0x60, fresh(), 16), MATRIX_DONE, 0));
+    HOLDS(done(matrix_apply_edit(p, sizeof p, 0x15, 0x7F), 0) && p[26] == 127);
+    HOLDS(done(matrix_apply_edit(p, sizeof p, MATRIX_DCO_2_DETUNE, -32 & 0x7F), 0));
     HOLDS(p[19] == 0xE0);
-    HOLDS(gave(matrix_apply_edit(p, sizeof p, 0x0C, 0x5F, fresh(), 16), MATRIX_OUT_OF_RANGE, 19));
-    HOLDS(gave(matrix_apply_edit(p, sizeof p, 0x00, 0x40, fresh(), 16), MATRIX_OUT_OF_RANGE, 9));
-    HOLDS(gave(matrix_apply_edit(p, sizeof p, 39, 0, fresh(), 16), MATRIX_NOT_ALLOWED, 0));
+    HOLDS(gave(matrix_apply_edit(p, sizeof p, 0x0C, 0x5F), MATRIX_OUT_OF_RANGE, 19));
+    HOLDS(gave(matrix_apply_edit(p, sizeof p, 0x0C, 0x20), MATRIX_OUT_OF_RANGE, 19));
+    HOLDS(gave(matrix_apply_edit(p, sizeof p, 0x00, 0x40), MATRIX_OUT_OF_RANGE, 9));
+    HOLDS(gave(matrix_apply_edit(p, sizeof p, 39, 0), MATRIX_NOT_ALLOWED, 0));
     HOLDS(p[19] == 0xE0 && p[9] == 0);
+    HOLDS(done(matrix_apply_edit(p, sizeof p, 0x0C, 0x1F), 0) && p[19] == 31);
 
-    HOLDS(gave(matrix_apply_bus_edit(p, sizeof p, 9, 20, 0x40, 31, fresh(), 16), MATRIX_DONE, 0));
+    HOLDS(done(matrix_apply_bus_edit(p, sizeof p, 9, 20, 0x40, 31), 0));
     HOLDS(p[131] == 0x14 && p[132] == 0xC0 && p[133] == 0x1F);
-    HOLDS(gave(matrix_apply_bus_edit(p, sizeof p, 9, 20, 0x40, 32, fresh(), 16),
-               MATRIX_OUT_OF_RANGE, 133));
-    HOLDS(gave(matrix_apply_bus_edit(p, sizeof p, 0, 1, 0, 0, fresh(), 16), MATRIX_HALF_USED, 0));
+    HOLDS(gave(matrix_apply_bus_edit(p, sizeof p, 9, 1, 0, 32), MATRIX_OUT_OF_RANGE, 133));
+    HOLDS(gave(matrix_apply_bus_edit(p, sizeof p, 0, 1, 0, 0), MATRIX_HALF_USED, 0));
+    HOLDS(gave(matrix_apply_bus_edit(p, sizeof p, 10, 1, 0, 1), MATRIX_NOT_ALLOWED, 0));
+    HOLDS(p[131] == 0x14 && p[133] == 0x1F && all_are(p, 104, 131, 0));
 
     memset(out, FILL_BYTE, sizeof out);
-    HOLDS(gave(matrix_write_edit(0x15, 0x7F, out, 6, fresh(), 16), MATRIX_NO_ROOM, 0));
+    HOLDS(gave(matrix_write_edit(0x15, 0x7F, out, 6), MATRIX_NO_ROOM, 0));
+    HOLDS(gave(matrix_write_edit(0x15, 0x80, out, sizeof out), MATRIX_NOT_ALLOWED, 0));
     HOLDS(all_are(out, 0, sizeof out, FILL_BYTE));
-    HOLDS(gave(matrix_write_edit(0x15, 0x7F, out, sizeof out, fresh(), 16), MATRIX_DONE, 7));
-    HOLDS(memcmp(out, edit, sizeof edit) == 0 && out[7] == FILL_BYTE);
+    HOLDS(done(matrix_write_edit(0x15, 0x7F, out, sizeof out), 7));
+    HOLDS(memcmp(out, edit, sizeof edit) == 0 && all_are(out, 7, sizeof out, FILL_BYTE));
 
     memset(out, FILL_BYTE, sizeof out);
-    HOLDS(gave(matrix_write_bus_edit(10, 20, 0x40, 31, out, sizeof out, fresh(), 16),
-               MATRIX_NOT_ALLOWED, 0));
+    HOLDS(gave(matrix_write_bus_edit(10, 20, 0x40, 31, out, sizeof out), MATRIX_NOT_ALLOWED, 0));
     HOLDS(all_are(out, 0, sizeof out, FILL_BYTE));
-    HOLDS(gave(matrix_write_bus_edit(9, 20, 0x40, 31, out, sizeof out, fresh(), 16),
-               MATRIX_DONE, 9));
+    HOLDS(done(matrix_write_bus_edit(9, 20, 0x40, 31, out, sizeof out), 9));
     HOLDS(memcmp(out, bus, sizeof bus) == 0 && out[9] == FILL_BYTE);
 }
 
 static void test_writing(void)
 {
-    uint8_t p[MATRIX_PATCH_BYTES], out[MATRIX_MASTER_MESSAGE + 1];
+    uint8_t p[MATRIX_PATCH_BYTES], master[MATRIX_MASTER_BYTES], out[MATRIX_MASTER_MESSAGE + 1];
     static const uint8_t head[] = {0xF0, 0x10, 0x06, 0x01, 0x00};
     static const uint8_t edit_head[] = {0xF0, 0x10, 0x06, 0x0D, 0x00};
     static const uint8_t master_head[] = {0xF0, 0x10, 0x06, 0x03, 0x03};
-    uint8_t master[MATRIX_MASTER_BYTES];
 
     make_p(p);
     memset(out, FILL_BYTE, sizeof out);
-    HOLDS(gave(matrix_write_patch(0, p, sizeof p, out, 274, fresh(), 16), MATRIX_NO_ROOM, 0));
-    HOLDS(gave(matrix_write_patch(100, p, sizeof p, out, 275, fresh(), 16),
-               MATRIX_NOT_ALLOWED, 0));
+    HOLDS(gave(matrix_write_patch(0, p, sizeof p, out, 274), MATRIX_NO_ROOM, 0));
+    HOLDS(gave(matrix_write_patch(100, p, sizeof p, out, 275), MATRIX_NOT_ALLOWED, 0));
     HOLDS(all_are(out, 0, sizeof out, FILL_BYTE));
-    HOLDS(gave(matrix_write_patch(0, p, sizeof p, out, 275, fresh(), 16), MATRIX_DONE, 275));
+    HOLDS(done(matrix_write_patch(0, p, sizeof p, out, 275), 275));
+    HOLDS(all_are(out, 275, sizeof out, FILL_BYTE));
+    HOLDS(done(matrix_write_patch(0, p, sizeof p, out, sizeof out), 275));
     HOLDS(memcmp(out, head, sizeof head) == 0 && all_are(out, 5, 157, 0) && out[157] == 1);
     HOLDS(all_are(out, 158, 273, 0) && out[273] == 0x01 && out[274] == 0xF7);
     HOLDS(all_are(out, 275, sizeof out, FILL_BYTE));
 
-    HOLDS(gave(matrix_write_edit_buffer(p, sizeof p, out, sizeof out, fresh(), 16),
-               MATRIX_DONE, 275));
-    HOLDS(memcmp(out, edit_head, sizeof edit_head) == 0 && out[157] == 1 && out[273] == 0x01);
+    HOLDS(done(matrix_apply_bus_edit(p, sizeof p, 0, 1, 0x7F, 1), 0));
+    HOLDS(done(matrix_write_edit_buffer(p, sizeof p, out, sizeof out), 275));
+    HOLDS(memcmp(out, edit_head, sizeof edit_head) == 0 && out[157] == 1 && out[273] == 0x02);
+    HOLDS(all_are(out, 275, sizeof out, FILL_BYTE));
 
     memset(master, 0xFF, sizeof master);
-    HOLDS(gave(matrix_write_master(master, 171, out, sizeof out, fresh(), 16),
-               MATRIX_WRONG_LENGTH, 0));
-    HOLDS(gave(matrix_write_master(master, 172, out, sizeof out, fresh(), 16), MATRIX_DONE, 351));
+    HOLDS(gave(matrix_write_master(master, 171, out, sizeof out), MATRIX_WRONG_LENGTH, 0));
+    HOLDS(gave(matrix_write_master(master, 172, out, 350), MATRIX_NO_ROOM, 0));
+    HOLDS(all_are(out, 275, sizeof out, FILL_BYTE));
+    HOLDS(done(matrix_write_master(master, 172, out, sizeof out), 351));
     HOLDS(memcmp(out, master_head, sizeof master_head) == 0 && all_are(out, 5, 349, 0x0F));
     HOLDS(out[349] == (172 * 0xFF) % 128 && out[350] == 0xF7 && out[351] == FILL_BYTE);
 }
@@ -214,42 +242,83 @@ static void test_banks(void)
     static uint8_t patches[(MATRIX_BANK_PATCHES + 1) * MATRIX_PATCH_BYTES];
     static uint8_t out[MATRIX_BANK_PATCHES * MATRIX_PATCH_MESSAGE + 1];
     const size_t bank = MATRIX_BANK_PATCHES * MATRIX_PATCH_BYTES;
-    size_t room[4 * MATRIX_REPORTS];
+    size_t room[MATRIX_REPORTS * MATRIX_REPORT_NUMBERS];
 
     for (size_t i = 0; i <= MATRIX_BANK_PATCHES; i++)
         make_p(patches + i * MATRIX_PATCH_BYTES);
     memset(out, FILL_BYTE, sizeof out);
-    HOLDS(matrix_write_bank(patches, bank, out, sizeof out, fresh(), 4) == MATRIX_DONE);
-    HOLDS(n[1] == sizeof out - 1 && n[2] == 0 && n[3] == FILL_NUMBER);
+    HOLDS(bank_gave(matrix_write_bank(patches, bank, out, sizeof out - 2), MATRIX_NO_ROOM, 0, 0));
+    HOLDS(all_are(out, 0, sizeof out, FILL_BYTE));
+    HOLDS(bank_gave(matrix_write_bank(patches, bank, out, sizeof out),
+                    MATRIX_DONE, sizeof out - 1, 0));
     HOLDS(out[sizeof out - 1] == FILL_BYTE);
-    /* Call after call, each from the end of the last report. */
-    size_t place = 0, last = 0, reports = 0, made;
-    while ((made = matrix_reports(out, sizeof out, place, room, 4 * MATRIX_REPORTS)) > 0) {
-        reports += made;
-        last = room[4 * made - 4];
-        place = room[4 * made - 3];
-    }
-    HOLDS(reports == MATRIX_BANK_PATCHES);
-    HOLDS(matrix_read(out, sizeof out, last, patches, bank, fresh(), 8) == MATRIX_DONE);
-    HOLDS(n[4] == MATRIX_BANK_PATCHES - 1);
 
-    HOLDS(matrix_write_bank(patches, sizeof patches, out, sizeof out, fresh(), 3)
-          == MATRIX_WRONG_LENGTH);
+    /* Call after call, each from where the last one says. */
+    size_t last = 0, reports = 0;
+    matrix_listed made = {0, 0};
+    do {
+        made = matrix_reports(out, sizeof out, made.next, room, sizeof room / sizeof room[0]);
+        reports += made.count;
+        if (made.count > 0)
+            last = matrix_listed_report(room, made.count - 1).start;
+    } while (made.count > 0);
+    HOLDS(reports == MATRIX_BANK_PATCHES && made.next == sizeof out - 1);
+    matrix_reading r = matrix_read(out, sizeof out, last, patches, bank);
+    HOLDS(r.report.outcome.answer == MATRIX_DONE && r.bytes[0] == MATRIX_BANK_PATCHES - 1);
+
+    HOLDS(bank_gave(matrix_write_bank(patches, sizeof patches, out, sizeof out),
+                    MATRIX_WRONG_LENGTH, 0, 0));
     patches[3 * MATRIX_PATCH_BYTES + 104] = 1;
-    HOLDS(matrix_write_bank(patches, bank, out, sizeof out, fresh(), 3) == MATRIX_HALF_USED);
-    HOLDS(n[1] == 0 && n[2] == 3);
-    HOLDS(matrix_write_bank(patches, 0, out, 0, fresh(), 3) == MATRIX_DONE && n[1] == 0);
+    HOLDS(bank_gave(matrix_write_bank(patches, bank, out, sizeof out), MATRIX_HALF_USED, 0, 3));
+}
+
+/* An empty slice at NULL is an empty slice. */
+static void test_null(void)
+{
+    uint8_t p[MATRIX_PATCH_BYTES], one[1] = {FILL_BYTE};
+
+    make_p(p);
+    HOLDS(says(matrix_walk(NULL, 0, 0), 0, 0, MATRIX_NO_MESSAGE, 0));
+    HOLDS(says(matrix_walk(NULL, 0, 5), 0, 0, MATRIX_NO_MESSAGE, 0));
+    HOLDS(says(matrix_read(NULL, 0, 0, NULL, 0).report, 0, 0, MATRIX_NO_MESSAGE, 0));
+    HOLDS(says(matrix_read(listed, sizeof listed, 2, NULL, 0).report,
+               3, 10, MATRIX_DONE, MATRIX_OPCODE_EDIT));
+    HOLDS(matrix_reports(NULL, 0, 0, NULL, 0).count == 0);
+    HOLDS(matrix_reports(listed, sizeof listed, 2, NULL, 0).next == 2);
+    HOLDS(gave(matrix_test_patch(NULL, 0), MATRIX_WRONG_LENGTH, 0));
+    HOLDS(gave(matrix_set_name(NULL, 0, NULL, 0), MATRIX_WRONG_LENGTH, 0));
+    HOLDS(gave(matrix_set_name(p, sizeof p, NULL, 0), MATRIX_WRONG_LENGTH, 0));
+    HOLDS(gave(matrix_show_name(NULL, 0, one, 1), MATRIX_WRONG_LENGTH, 0));
+    HOLDS(gave(matrix_show_name(p, sizeof p, NULL, 0), MATRIX_NO_ROOM, 0));
+    HOLDS(gave(matrix_apply_edit(NULL, 0, 0x15, 0), MATRIX_WRONG_LENGTH, 0));
+    HOLDS(gave(matrix_apply_bus_edit(NULL, 0, 0, 0, 0, 0), MATRIX_WRONG_LENGTH, 0));
+    HOLDS(gave(matrix_write_patch(0, NULL, 0, one, 1), MATRIX_WRONG_LENGTH, 0));
+    HOLDS(gave(matrix_write_patch(0, p, sizeof p, NULL, 0), MATRIX_NO_ROOM, 0));
+    HOLDS(gave(matrix_write_edit_buffer(NULL, 0, NULL, 0), MATRIX_WRONG_LENGTH, 0));
+    HOLDS(gave(matrix_write_edit_buffer(p, sizeof p, NULL, 0), MATRIX_NO_ROOM, 0));
+    HOLDS(gave(matrix_write_master(NULL, 0, NULL, 0), MATRIX_WRONG_LENGTH, 0));
+    HOLDS(gave(matrix_write_edit(0x15, 0, NULL, 0), MATRIX_NO_ROOM, 0));
+    HOLDS(gave(matrix_write_bus_edit(0, 0, 0, 0, NULL, 0), MATRIX_NO_ROOM, 0));
+    HOLDS(bank_gave(matrix_write_bank(NULL, 0, NULL, 0), MATRIX_DONE, 0, 0));
+    HOLDS(bank_gave(matrix_write_bank(NULL, 0, one, 1), MATRIX_DONE, 0, 0));
+    HOLDS(one[0] == FILL_BYTE && done(matrix_test_patch(p, sizeof p), 0) && all_are(p, 0, 76, 0));
+
+    /* Through a pointer to a function too. */
+    matrix_report (*walk)(const uint8_t *, size_t, size_t) = matrix_walk;
+    HOLDS(says(walk(NULL, 0, 0), 0, 0, MATRIX_NO_MESSAGE, 0));
 }
 
 int main(void)
 {
     test_walking();
+    test_reports();
     test_reading();
     test_patches();
     test_names();
     test_edits();
     test_writing();
     test_banks();
+    test_null();
     printf("c: %u checks hold\n", checks);
     return EXIT_SUCCESS;
 }

@@ -1,28 +1,39 @@
-//! Links the static library `libexports.a`, which `rt staticlib exports` makes.
+//! Links the static library `libexports.a`. `tests/library` of the repository says where it is, and
+//! builds it first where it is missing or older than the crates it is made of.
 //!
-//! It is looked for in `MATRIX_LIB_DIR`, else in `target/staticlib` of the repository. The packages
-//! beside this one build with it too: `compare` itself, `bench` through `compare`.
+//! The packages beside this one build with this script too: `compare` itself, `bench` through `compare`.
 
 use std::env;
-use std::path::PathBuf;
+use std::path::Path;
+use std::process::Command;
 
 fn main() {
     println!("cargo::rerun-if-env-changed=MATRIX_LIB_DIR");
-    let folder = match env::var_os("MATRIX_LIB_DIR") {
-        Some(folder) => PathBuf::from(folder),
-        None => {
-            let package = env::var_os("CARGO_MANIFEST_DIR").expect("cargo sets it");
-            PathBuf::from(package).join("../target/staticlib")
-        }
-    };
-    let archive = folder.join("libexports.a");
-    println!("cargo::rerun-if-changed={}", archive.display());
-    if !archive.exists() {
-        println!(
-            "cargo::warning={} is not there: run `rt staticlib exports`, or set MATRIX_LIB_DIR",
-            archive.display()
-        );
+    if let Some(folder) = env::var_os("MATRIX_LIB_DIR") {
+        let archive = Path::new(&folder).join("libexports.a");
+        println!("cargo::rerun-if-changed={}", archive.display());
     }
-    println!("cargo::rustc-link-search=native={}", folder.display());
-    println!("cargo::rustc-link-lib=static=exports");
+    for path in ["tests/library", "crates.txt", "crates", "target/staticlib"] {
+        println!("cargo::rerun-if-changed=../{path}");
+    }
+    match library() {
+        Ok(folder) => {
+            println!("cargo::rustc-link-search=native={folder}");
+            println!("cargo::rustc-link-lib=static=exports");
+        }
+        Err(why) => println!("cargo::error={why}"),
+    }
+}
+
+/// The folder of the library, or one line that says what to do.
+fn library() -> Result<String, String> {
+    let script = "../tests/library";
+    let made = Command::new(script).output();
+    let made = made.map_err(|error| format!("{script}: {error}"))?;
+    let said = |bytes: &[u8]| String::from_utf8_lossy(bytes).trim().to_owned();
+    if made.status.success() {
+        return Ok(said(&made.stdout));
+    }
+    let said = said(&made.stderr);
+    Err(said.lines().last().unwrap_or(script).to_owned())
 }

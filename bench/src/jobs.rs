@@ -3,7 +3,7 @@
 
 use std::hint::black_box;
 
-use compare::{ffi, A_CALL};
+use compare::ffi::{self, A_CALL};
 use reference::streams::{inputs, Random};
 use reference::{BANK_PATCHES, PATCH_LENGTH};
 
@@ -78,16 +78,16 @@ fn reports(name: &'static str, input: Vec<u8>) -> Job {
         unit: "MB/s",
         library: Box::new(move || {
             let input = black_box(input.as_slice());
-            let mut room = [0; 4 * A_CALL];
+            let mut room = [ffi::EMPTY; A_CALL];
             let (mut all, mut place) = (0, 0);
             loop {
-                let made = ffi::reports(input, place, &mut room);
-                let (reports, _) = room.as_chunks::<4>();
-                for &[start, end, answer, detail] in &reports[..made] {
+                let made = ffi::reports(input, place, room.as_flattened_mut());
+                // The end of the last is the place to go on from, and known before the call is over.
+                for &[start, end, answer, detail] in &room[..made.count] {
                     all = add(all, start ^ end ^ answer ^ detail);
                     place = end;
                 }
-                if made == 0 {
+                if made.count == 0 {
                     return all;
                 }
             }
@@ -110,15 +110,19 @@ fn read(input: Vec<u8>) -> Job {
         unit: "MB/s",
         library: Box::new(move || {
             let input = black_box(input.as_slice());
-            let mut numbers = [0; 8];
             let (mut all, mut place) = (0, 0);
-            while ffi::read(input, place, &mut buffer, &mut numbers) != 1 {
-                let [start, end, answer, detail, first, ..] = numbers;
+            loop {
+                let r = ffi::read(input, place, &mut buffer);
+                let outcome = r.report.outcome;
+                if outcome.answer == 1 {
+                    return add(all, usize::from(buffer[133]));
+                }
                 black_box(&buffer);
-                all = add(all, start ^ end ^ answer ^ detail ^ first);
-                place = end;
+                let [first, ..] = r.bytes;
+                let places = r.report.start ^ r.report.end;
+                all = add(all, places ^ both(outcome) ^ usize::from(first));
+                place = r.report.end;
             }
-            add(all, usize::from(buffer[133]))
         }),
         plain: Box::new(move || {
             let input = black_box(other.as_slice());
@@ -149,12 +153,8 @@ fn test_patch(patches: Vec<u8>) -> Job {
         amount: patches.len(),
         unit: "MB/s",
         library: Box::new(move || {
-            let mut numbers = [0; 2];
             let patches = black_box(patches.as_slice()).chunks_exact(PATCH_LENGTH);
-            patches.fold(0, |all, patch| {
-                let answer = ffi::test_patch(patch, &mut numbers);
-                add(all, usize::from(answer) ^ numbers[1])
-            })
+            patches.fold(0, |all, patch| add(all, both(ffi::test_patch(patch))))
         }),
         plain: Box::new(move || {
             let patches = black_box(other.as_slice()).chunks_exact(PATCH_LENGTH);
@@ -176,10 +176,8 @@ fn write_bank(bank: Vec<u8>) -> Job {
         amount: out.len(),
         unit: "MB/s",
         library: Box::new(move || {
-            let mut numbers = [0; 3];
-            ffi::write_bank(black_box(&bank), black_box(&mut out), &mut numbers);
-            let [answer, detail, place] = numbers;
-            answer ^ detail ^ place ^ usize::from(out[273])
+            let written = ffi::write_bank(black_box(&bank), black_box(&mut out));
+            both(written.outcome) ^ written.place ^ usize::from(out[273])
         }),
         plain: Box::new(move || {
             let written = reference::write_bank(black_box(&other), black_box(&mut other_out));
@@ -198,13 +196,11 @@ fn apply_edits(mut patch: [u8; PATCH_LENGTH], edits: Vec<[u8; 2]>) -> Job {
         amount: edits.len(),
         unit: "million edits/s",
         library: Box::new(move || {
-            let mut numbers = [0; 2];
             let patch = black_box(&mut patch);
             let all = black_box(&edits)
                 .iter()
                 .fold(0, |all, &[parameter, value]| {
-                    let answer = ffi::apply_edit(patch, parameter, value, &mut numbers);
-                    add(all, usize::from(answer) ^ numbers[1])
+                    add(all, both(ffi::apply_edit(patch, parameter, value)))
                 });
             sum(all, patch)
         }),
@@ -230,11 +226,9 @@ fn apply_bus_edits(mut patch: [u8; PATCH_LENGTH], edits: Vec<[u8; 4]>) -> Job {
         amount: edits.len(),
         unit: "million edits/s",
         library: Box::new(move || {
-            let mut numbers = [0; 2];
             let patch = black_box(&mut patch);
             let all = black_box(&edits).iter().fold(0, |all, &edit| {
-                let answer = ffi::apply_bus_edit(patch, edit, &mut numbers);
-                add(all, usize::from(answer) ^ numbers[1])
+                add(all, both(ffi::apply_bus_edit(patch, edit)))
             });
             sum(all, patch)
         }),
@@ -248,6 +242,11 @@ fn apply_bus_edits(mut patch: [u8; PATCH_LENGTH], edits: Vec<[u8; 4]>) -> Job {
             sum(all, patch)
         }),
     }
+}
+
+/// The numbers of an outcome as one.
+fn both(outcome: ffi::Outcome) -> usize {
+    usize::from(outcome.answer) ^ outcome.detail
 }
 
 /// Adds a patch's bytes to the results.

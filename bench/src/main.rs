@@ -13,6 +13,7 @@ mod jobs;
 
 use std::env;
 use std::hint::black_box;
+use std::process;
 use std::time::Duration;
 
 use compare::clock;
@@ -39,7 +40,10 @@ fn main() {
     let effort = match words[..] {
         [] => FULL,
         ["--quick"] => QUICK,
-        _ => panic!("bench [--quick]"),
+        _ => {
+            eprintln!("bench [--quick]");
+            process::exit(2)
+        }
     };
     let Effort { sample, rounds } = effort;
     println!("{rounds} rounds in turn, about {sample:?} each, the median; buffers not cleared between calls");

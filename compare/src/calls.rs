@@ -1,7 +1,7 @@
 //! Inputs for each routine: good, damaged and hostile, with slices of every length around the
 //! needed one.
 
-use compare::A_CALL;
+use compare::ffi::A_CALL;
 use reference::streams::{self, inputs, Random};
 use reference::{reports, BANK_PATCHES, NAME_LENGTH, PATCH_LENGTH};
 
@@ -18,22 +18,12 @@ fn around(random: &mut Random, needed: usize) -> usize {
     }
 }
 
-/// A slice for this many results: mostly enough, sometimes short by one or more.
-fn results(random: &mut Random, needed: usize) -> Lent<usize> {
-    let length = match random.below(8) {
-        0 => random.below(needed),
-        1..=3 => needed,
-        _ => needed + random.below(8),
-    };
-    Lent::filled(random, length)
-}
-
-/// A call that lends nothing but room for results.
-fn call(random: &mut Random, needed: usize) -> Call {
+/// A call that lends nothing.
+fn call(random: &mut Random) -> Call {
     Call {
         first: Lent::filled(random, 0),
         second: Lent::filled(random, 0),
-        numbers: results(random, needed),
+        room: Lent::filled(random, 0),
         place: 0,
         bytes: [0; 4],
     }
@@ -61,7 +51,7 @@ pub fn walk(random: &mut Random) -> Call {
     Call {
         first: Lent::new(random, &input),
         place,
-        ..call(random, 4)
+        ..call(random)
     }
 }
 
@@ -73,7 +63,7 @@ pub fn read(random: &mut Random) -> Call {
         first: Lent::new(random, &input),
         second: Lent::filled(random, length),
         place,
-        ..call(random, 8)
+        ..call(random)
     }
 }
 
@@ -87,9 +77,9 @@ pub fn reports_from(random: &mut Random) -> Call {
     };
     Call {
         first: Lent::new(random, &input),
-        numbers: Lent::filled(random, length),
+        room: Lent::filled(random, length),
         place,
-        ..call(random, 4)
+        ..call(random)
     }
 }
 
@@ -100,7 +90,7 @@ fn patch(random: &mut Random, needed: usize) -> Call {
     Call {
         first: Lent::new(random, &patch),
         second: Lent::filled(random, length),
-        ..call(random, 2)
+        ..call(random)
     }
 }
 
@@ -157,7 +147,7 @@ pub fn write_master(random: &mut Random) -> Call {
     Call {
         first: Lent::new(random, &master),
         second: Lent::filled(random, length),
-        ..call(random, 2)
+        ..call(random)
     }
 }
 
@@ -166,7 +156,7 @@ pub fn write_edit(random: &mut Random) -> Call {
     Call {
         second: Lent::filled(random, length),
         bytes: two(inputs::edit(random)),
-        ..call(random, 2)
+        ..call(random)
     }
 }
 
@@ -175,7 +165,7 @@ pub fn write_bus_edit(random: &mut Random) -> Call {
     Call {
         second: Lent::filled(random, length),
         bytes: inputs::bus_edit(random),
-        ..call(random, 2)
+        ..call(random)
     }
 }
 
@@ -186,7 +176,7 @@ pub fn write_bank(random: &mut Random) -> Call {
     Call {
         first: Lent::new(random, &bank),
         second: Lent::filled(random, length),
-        ..call(random, 3)
+        ..call(random)
     }
 }
 
@@ -197,9 +187,8 @@ pub fn every_edit(random: &mut Random, number: usize) -> Call {
     Call {
         first: Lent::new(random, &patch),
         second: Lent::filled(random, 7),
-        numbers: Lent::filled(random, 2),
-        place: 0,
         bytes: two([parameter, value]),
+        ..call(random)
     }
 }
 
@@ -207,7 +196,7 @@ pub fn every_edit(random: &mut Random, number: usize) -> Call {
 pub fn every_byte(random: &mut Random, number: usize) -> Call {
     Call {
         bytes: [number as u8, 0, 0, 0],
-        ..call(random, 1)
+        ..call(random)
     }
 }
 
@@ -217,7 +206,7 @@ pub fn every_field(random: &mut Random, number: usize) -> Call {
     patch[number >> 8] = number as u8;
     Call {
         first: Lent::new(random, &patch),
-        ..call(random, 2)
+        ..call(random)
     }
 }
 

@@ -89,8 +89,8 @@ pub struct Call {
     pub first: Lent<u8>,
     /// What it reads or writes next: the buffer, output or name.
     pub second: Lent<u8>,
-    /// Where results go.
-    pub numbers: Lent<usize>,
+    /// Where reports go.
+    pub room: Lent<usize>,
     /// The place to walk from.
     pub place: usize,
     /// A patch number, or an edit's bytes.
@@ -101,7 +101,7 @@ impl fmt::Display for Call {
     fn fmt(&self, f: &mut fmt::Formatter<'_>) -> fmt::Result {
         writeln!(f, "    first   {:?}", self.first)?;
         writeln!(f, "    second  {:?}", self.second)?;
-        writeln!(f, "    numbers {:?}", self.numbers)?;
+        writeln!(f, "    room    {:?}", self.room)?;
         write!(f, "    place {}, bytes {:02X?}", self.place, self.bytes)
     }
 }

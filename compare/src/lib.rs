@@ -7,5 +7,14 @@ pub mod clock;
 #[path = "../../rust/src/ffi.rs"]
 pub mod ffi;
 
-/// The most reports that the library makes in a call.
-pub const A_CALL: usize = 8;
+/// The second program's report as it stands in the room that is lent for reports.
+#[must_use]
+pub fn flat(report: reference::Report) -> ffi::Flat {
+    let reference::Report {
+        start,
+        end,
+        answer,
+        detail,
+    } = report;
+    [start, end, answer.into(), detail]
+}

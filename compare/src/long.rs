@@ -9,9 +9,11 @@ use std::fs;
 use std::hint::black_box;
 use std::time::Duration;
 
-use compare::{clock, ffi, A_CALL};
+use compare::ffi::{self, Flat, A_CALL};
+use compare::{clock, flat};
+use reference::answers::NO_MESSAGE;
 use reference::streams::{inputs, Random};
-use reference::{Report, BANK_PATCHES};
+use reference::BANK_PATCHES;
 
 /// The size of the short inputs.
 const SHORT: usize = 1 << 16;
@@ -83,36 +85,35 @@ fn banks(size: usize) -> Vec<u8> {
 }
 
 /// Goes through the reports of an input, giving each to the function until it says stop.
-type Through = fn(&[u8], &mut dyn FnMut(&[usize; 4]) -> bool);
+type Through = fn(&[u8], &mut dyn FnMut(&Flat) -> bool);
 
 /// By calls for eight reports each.
-fn by_reports(input: &[u8], each: &mut dyn FnMut(&[usize; 4]) -> bool) {
-    let mut room = [0; 4 * A_CALL];
+fn by_reports(input: &[u8], each: &mut dyn FnMut(&Flat) -> bool) {
+    let mut room = [ffi::EMPTY; A_CALL];
     let mut place = 0;
     loop {
-        let made = ffi::reports(input, place, &mut room);
-        let (reports, _) = room.as_chunks::<4>();
-        for report in &reports[..made] {
-            if !each(report) {
-                return;
-            }
+        let made = ffi::reports(input, place, room.as_flattened_mut());
+        let reports = &room[..made.count];
+        if reports.is_empty() || !reports.iter().all(&mut *each) {
+            return;
         }
-        match reports[..made].last() {
-            Some(&[_, end, ..]) => place = end,
-            None => return,
-        }
+        place = made.next;
     }
 }
 
 /// By a walk from each end.
-fn by_walk(input: &[u8], each: &mut dyn FnMut(&[usize; 4]) -> bool) {
-    let mut report = [0; 4];
+fn by_walk(input: &[u8], each: &mut dyn FnMut(&Flat) -> bool) {
     let mut place = 0;
-    while ffi::walk(input, place, &mut report) != 1 {
-        if !each(&report) {
+    loop {
+        let ffi::Report {
+            start,
+            end,
+            outcome: ffi::Outcome { answer, detail },
+        } = ffi::walk(input, place);
+        if answer == NO_MESSAGE || !each(&[start, end, answer.into(), detail]) {
             return;
         }
-        place = report[1];
+        place = end;
     }
 }
 
@@ -125,7 +126,7 @@ fn agree(input: &[u8], through: Through) -> Option<usize> {
     let mut same = true;
     through(input, &mut |report| {
         let wanted = expected.next();
-        same = wanted.map(four) == Some(*report);
+        same = wanted.map(flat) == Some(*report);
         if !same {
             println!(
                 "report {count} differs: the library has {report:?}, the second program {wanted:?}"
@@ -142,16 +143,6 @@ fn agree(input: &[u8], through: Through) -> Option<usize> {
         return None;
     }
     Some(count)
-}
-
-fn four(report: Report) -> [usize; 4] {
-    let Report {
-        start,
-        end,
-        answer,
-        detail,
-    } = report;
-    [start, end, answer.into(), detail]
 }
 
 /// How long it takes to go through the reports of these inputs.
@@ -201,7 +192,6 @@ fn measured(input: &[u8], short: &[u8], through: Through, rounds: usize) -> [f64
 
 /// Compares and times all kinds of input at this many MiB; whether all held.
 pub fn run(mebibytes: usize) -> bool {
-    assert!(mebibytes > 0, "at least 1 MiB");
     let size = mebibytes << 20;
     let rounds = if mebibytes < 16 { 15 } else { 5 };
     println!("inputs of {mebibytes} MiB, seed {SEED}, {}", stack_limit());

@@ -2,6 +2,7 @@
 //!
 //!     compare [COUNT] [SEED]     COUNT inputs for each routine (3,000), from SEED on (0)
 //!     compare long [MIB]         reports and growth on inputs of MIB mebibytes (64)
+//!     compare routines           the names of the routines that are compared
 //!
 //! Input number i of a routine is made from seed SEED + i alone. A difference prints that seed, all
 //! that was lent, and what either program returned and left, and ends the run with status 1.
@@ -13,7 +14,7 @@ mod routines;
 
 use std::collections::BTreeMap;
 use std::env;
-use std::process::ExitCode;
+use std::process::{self, ExitCode};
 
 use lent::Call;
 use reference::streams::Random;
@@ -27,18 +28,37 @@ fn main() -> ExitCode {
     let words: Vec<&str> = words.iter().map(String::as_str).collect();
     let held = match words[..] {
         ["long"] => long::run(64),
-        ["long", mebibytes] => long::run(number(mebibytes)),
+        ["long", mebibytes] => long::run(some(mebibytes)),
+        ["routines"] => {
+            ROUTINES
+                .iter()
+                .for_each(|routine| println!("matrix_{}", routine.name));
+            true
+        }
         [] => compare(COUNT, 0),
-        [count] => compare(number(count), 0),
-        [count, seed] => compare(number(count), number(seed)),
-        _ => panic!("compare [COUNT] [SEED] | compare long [MIB]"),
+        [count] => compare(some(count), 0),
+        [count, seed] => compare(some(count), number(seed)),
+        _ => stop("compare [COUNT] [SEED] | compare long [MIB] | compare routines"),
     };
     ExitCode::from(u8::from(!held))
 }
 
 fn number<T: std::str::FromStr>(word: &str) -> T {
     let number = word.parse().ok();
-    number.unwrap_or_else(|| panic!("not a number: {word}"))
+    number.unwrap_or_else(|| stop(&format!("not a number: {word}")))
+}
+
+/// How many, or how much, to compare.
+fn some(word: &str) -> usize {
+    match number(word) {
+        0 => stop("nothing to compare: at least 1"),
+        some => some,
+    }
+}
+
+fn stop(why: &str) -> ! {
+    eprintln!("{why}");
+    process::exit(2)
 }
 
 fn compare(count: usize, first_seed: u64) -> bool {
@@ -61,13 +81,13 @@ fn compare_routine(routine: &Routine, count: usize, first_seed: u64) -> bool {
             Source::Any(make) => make(&mut random),
             Source::Every(_, make) => make(&mut random, index),
         };
-        let Some(value) = compare_call(routine, &call) else {
+        let Some(first) = compare_call(routine, &call) else {
             println!("  seed {seed}, index {index}");
             return false;
         };
-        *returned.entry(value).or_default() += 1;
+        *returned.entry(first).or_default() += 1;
     }
-    print!("{}: {count} inputs the same; returned", routine.name);
+    print!("{routine}: {count} inputs the same; returned");
     match returned.len() {
         0..=16 => returned
             .iter()
@@ -78,17 +98,17 @@ fn compare_routine(routine: &Routine, count: usize, first_seed: u64) -> bool {
     true
 }
 
-/// The value that both programs return, or none and a print where something differs.
+/// The first number that both programs return, or none and a print where something differs.
 fn compare_call(routine: &Routine, call: &Call) -> Option<usize> {
     let (mut library, mut expected) = (call.clone(), call.clone());
-    let value = (routine.library)(&mut library);
-    let expected_value = routine.expect(&mut expected);
-    if value == expected_value && library == expected {
-        return Some(value);
+    let returned = (routine.library)(&mut library);
+    let expected_return = (routine.expected)(&mut expected);
+    if returned == expected_return && library == expected {
+        return Some(returned.first());
     }
-    println!("{}: the programs differ", routine.name);
+    println!("{routine}: the programs differ");
     println!("  given\n{call}");
-    println!("  the library returned {value} and left\n{library}");
-    println!("  the second program returned {expected_value} and left\n{expected}");
+    println!("  the library returned {returned:?} and left\n{library}");
+    println!("  the second program returned {expected_return:?} and left\n{expected}");
     None
 }

@@ -1,9 +1,10 @@
 //! The exported routines, each beside the second program's.
 
-use compare::{ffi, A_CALL};
-use reference::answers::{NO_MESSAGE, TOO_SHORT};
+use std::fmt;
+
+use compare::ffi::{self, A_CALL};
+use reference::answers::NO_MESSAGE;
 use reference::streams::Random;
-use reference::{BankOutcome, Outcome, Reading, Report};
 
 use crate::calls;
 use crate::lent::Call;
@@ -19,285 +20,303 @@ pub enum Source {
 
 /// A routine of the library, and what the second program says of the same call.
 pub struct Routine {
+    /// What the library exports it as, behind `matrix_`.
     pub name: &'static str,
+    /// Which inputs these are, where they are not just any.
+    pub inputs: &'static str,
     pub source: Source,
-    /// How many numbers it gives. With room for fewer nothing changes and the answer is 13.
-    pub results: usize,
-    /// Makes the call and returns what the library does.
-    pub library: fn(&mut Call) -> usize,
-    /// The value that the call is to return and the numbers that it is to give. Bytes are written
-    /// as the call is to write them.
-    pub expected: fn(&mut Call) -> (usize, Vec<usize>),
+    /// Makes the call.
+    pub library: fn(&mut Call) -> Returned,
+    /// What the call is to return. Elements are written as the call is to write them.
+    pub expected: fn(&mut Call) -> Returned,
 }
 
-impl Routine {
-    /// What the call is to return and leave.
-    pub fn expect(&self, call: &mut Call) -> usize {
-        if call.numbers.get().len() < self.results {
-            return TOO_SHORT.into();
-        }
-        let (value, numbers) = (self.expected)(call);
-        call.numbers.get_mut()[..numbers.len()].copy_from_slice(&numbers);
-        value
+impl fmt::Display for Routine {
+    fn fmt(&self, f: &mut fmt::Formatter<'_>) -> fmt::Result {
+        write!(f, "{}{}", self.name, self.inputs)
     }
 }
 
-fn outcome(outcome: Outcome) -> (usize, Vec<usize>) {
-    let Outcome { answer, detail } = outcome;
-    (answer.into(), vec![answer.into(), detail])
+/// What a call returns, as numbers; the answer, or what else it is known by, first.
+#[derive(Debug, PartialEq, Eq)]
+pub struct Returned(Vec<usize>);
+
+impl Returned {
+    /// The answer, count, place or parameter.
+    pub fn first(&self) -> usize {
+        self.0[0]
+    }
+
+    fn and(mut self, more: impl IntoIterator<Item = usize>) -> Self {
+        self.0.extend(more);
+        self
+    }
 }
 
-fn report(report: Report) -> (usize, Vec<usize>) {
-    let Report {
-        start,
-        end,
-        answer,
-        detail,
-    } = report;
-    (answer.into(), vec![start, end, answer.into(), detail])
+/// The library's structs.
+impl From<ffi::Outcome> for Returned {
+    fn from(ffi::Outcome { answer, detail }: ffi::Outcome) -> Self {
+        Self(vec![answer.into(), detail])
+    }
 }
 
-fn reading(reading: Reading) -> (usize, Vec<usize>) {
-    let Reading {
-        start,
-        end,
-        answer,
-        detail,
-        bytes,
-    } = reading;
-    let mut numbers = vec![start, end, answer.into(), detail];
-    numbers.extend(bytes.map(usize::from));
-    (answer.into(), numbers)
+impl From<ffi::Report> for Returned {
+    fn from(report: ffi::Report) -> Self {
+        let ffi::Report {
+            start,
+            end,
+            outcome,
+        } = report;
+        Self::from(outcome).and([start, end])
+    }
 }
 
-fn bank(bank: BankOutcome) -> (usize, Vec<usize>) {
-    let BankOutcome {
-        answer,
-        detail,
-        place,
-    } = bank;
-    (answer.into(), vec![answer.into(), detail, place])
+impl From<ffi::Reading> for Returned {
+    fn from(ffi::Reading { report, bytes }: ffi::Reading) -> Self {
+        Self::from(report).and(bytes.map(usize::from))
+    }
+}
+
+impl From<ffi::BankOutcome> for Returned {
+    fn from(ffi::BankOutcome { outcome, place }: ffi::BankOutcome) -> Self {
+        Self::from(outcome).and([place])
+    }
+}
+
+impl From<ffi::Listed> for Returned {
+    fn from(ffi::Listed { count, next }: ffi::Listed) -> Self {
+        Self(vec![count, next])
+    }
+}
+
+impl From<u8> for Returned {
+    fn from(number: u8) -> Self {
+        Self(vec![number.into()])
+    }
+}
+
+/// The second program's structs, the same numbers in the same order.
+impl From<reference::Outcome> for Returned {
+    fn from(reference::Outcome { answer, detail }: reference::Outcome) -> Self {
+        Self(vec![answer.into(), detail])
+    }
+}
+
+impl From<reference::Report> for Returned {
+    fn from(report: reference::Report) -> Self {
+        let reference::Report {
+            start,
+            end,
+            answer,
+            detail,
+        } = report;
+        Self(vec![answer.into(), detail, start, end])
+    }
+}
+
+impl From<reference::Reading> for Returned {
+    fn from(reading: reference::Reading) -> Self {
+        let reference::Reading {
+            start,
+            end,
+            answer,
+            detail,
+            bytes,
+        } = reading;
+        Self(vec![answer.into(), detail, start, end]).and(bytes.map(usize::from))
+    }
+}
+
+impl From<reference::BankOutcome> for Returned {
+    fn from(bank: reference::BankOutcome) -> Self {
+        let reference::BankOutcome {
+            answer,
+            detail,
+            place,
+        } = bank;
+        Self(vec![answer.into(), detail, place])
+    }
+}
+
+/// What the table gives, 255 for none.
+impl From<Option<u8>> for Returned {
+    fn from(number: Option<u8>) -> Self {
+        Self::from(number.unwrap_or(255))
+    }
 }
 
 /// The reports from the call's place on, as many as its room takes, at most eight.
-fn reports(call: &mut Call) -> (usize, Vec<usize>) {
-    let most = A_CALL.min(call.numbers.get().len() / 4);
+fn reports(call: &mut Call) -> Returned {
     let mut place = call.place;
-    let mut numbers = Vec::new();
     let mut made = 0;
-    while made < most {
-        let next = reference::walk(call.first.get(), place);
-        if next.answer == NO_MESSAGE {
+    let (room, _) = call.room.get_mut().as_chunks_mut();
+    for flat in room.iter_mut().take(A_CALL) {
+        let report = reference::walk(call.first.get(), place);
+        if report.answer == NO_MESSAGE {
             break;
         }
-        place = next.end;
+        *flat = compare::flat(report);
+        place = report.end;
         made += 1;
-        numbers.extend(report(next).1);
     }
-    (made, numbers)
-}
-
-/// The number that the table gives, 255 for none.
-fn listed(number: Option<u8>) -> (usize, Vec<usize>) {
-    (number.unwrap_or(255).into(), Vec::new())
+    Returned(vec![made, place])
 }
 
 const TEST_PATCH: Routine = Routine {
     name: "test_patch",
+    inputs: "",
     source: Source::Any(calls::test_patch),
-    results: 2,
-    library: |c| ffi::test_patch(c.first.get(), c.numbers.get_mut()).into(),
-    expected: |c| outcome(reference::test_patch(c.first.get())),
+    library: |c| ffi::test_patch(c.first.get()).into(),
+    expected: |c| reference::test_patch(c.first.get()).into(),
 };
 
 const APPLY_EDIT: Routine = Routine {
     name: "apply_edit",
+    inputs: "",
     source: Source::Any(calls::apply_edit),
-    results: 2,
     library: |c| {
         let [parameter, value, ..] = c.bytes;
-        let patch = c.first.get_mut();
-        ffi::apply_edit(patch, parameter, value, c.numbers.get_mut()).into()
+        ffi::apply_edit(c.first.get_mut(), parameter, value).into()
     },
     expected: |c| {
         let [parameter, value, ..] = c.bytes;
-        outcome(reference::apply_edit(c.first.get_mut(), parameter, value))
+        reference::apply_edit(c.first.get_mut(), parameter, value).into()
     },
 };
 
 const WRITE_EDIT: Routine = Routine {
     name: "write_edit",
+    inputs: "",
     source: Source::Any(calls::write_edit),
-    results: 2,
     library: |c| {
         let [parameter, value, ..] = c.bytes;
-        let out = c.second.get_mut();
-        ffi::write_edit(parameter, value, out, c.numbers.get_mut()).into()
+        ffi::write_edit(parameter, value, c.second.get_mut()).into()
     },
     expected: |c| {
         let [parameter, value, ..] = c.bytes;
-        outcome(reference::write_edit(parameter, value, c.second.get_mut()))
+        reference::write_edit(parameter, value, c.second.get_mut()).into()
     },
 };
 
 pub static ROUTINES: [Routine; 19] = [
     Routine {
         name: "walk",
+        inputs: "",
         source: Source::Any(calls::walk),
-        results: 4,
-        library: |c| ffi::walk(c.first.get(), c.place, c.numbers.get_mut()).into(),
-        expected: |c| report(reference::walk(c.first.get(), c.place)),
+        library: |c| ffi::walk(c.first.get(), c.place).into(),
+        expected: |c| reference::walk(c.first.get(), c.place).into(),
     },
     Routine {
         name: "read",
+        inputs: "",
         source: Source::Any(calls::read),
-        results: 8,
-        library: |c| {
-            let buffer = c.second.get_mut();
-            ffi::read(c.first.get(), c.place, buffer, c.numbers.get_mut()).into()
-        },
-        expected: |c| {
-            let buffer = c.second.get_mut();
-            reading(reference::read(c.first.get(), c.place, buffer))
-        },
+        library: |c| ffi::read(c.first.get(), c.place, c.second.get_mut()).into(),
+        expected: |c| reference::read(c.first.get(), c.place, c.second.get_mut()).into(),
     },
     Routine {
         name: "reports",
+        inputs: "",
         source: Source::Any(calls::reports_from),
-        results: 0,
-        library: |c| ffi::reports(c.first.get(), c.place, c.numbers.get_mut()),
+        library: |c| ffi::reports(c.first.get(), c.place, c.room.get_mut()).into(),
         expected: reports,
     },
     TEST_PATCH,
     Routine {
-        name: "test_patch, every byte at every place",
+        inputs: ", every byte at every place",
         source: Source::Every(134 * 256, calls::every_field),
         ..TEST_PATCH
     },
     Routine {
-        name: "place_of, every parameter",
+        name: "place_of",
+        inputs: ", every parameter",
         source: Source::Every(256, calls::every_byte),
-        results: 0,
         library: |c| ffi::place_of(c.bytes[0]).into(),
-        expected: |c| listed(reference::place_of(c.bytes[0])),
+        expected: |c| reference::place_of(c.bytes[0]).into(),
     },
     Routine {
-        name: "parameter_of, every place",
+        name: "parameter_of",
+        inputs: ", every place",
         source: Source::Every(256, calls::every_byte),
-        results: 0,
         library: |c| ffi::parameter_of(c.bytes[0]).into(),
-        expected: |c| listed(reference::parameter_of(c.bytes[0])),
+        expected: |c| reference::parameter_of(c.bytes[0]).into(),
     },
     Routine {
         name: "set_name",
+        inputs: "",
         source: Source::Any(calls::set_name),
-        results: 2,
-        library: |c| {
-            let patch = c.first.get_mut();
-            ffi::set_name(patch, c.second.get(), c.numbers.get_mut()).into()
-        },
-        expected: |c| outcome(reference::set_name(c.first.get_mut(), c.second.get())),
+        library: |c| ffi::set_name(c.first.get_mut(), c.second.get()).into(),
+        expected: |c| reference::set_name(c.first.get_mut(), c.second.get()).into(),
     },
     Routine {
         name: "show_name",
+        inputs: "",
         source: Source::Any(calls::show_name),
-        results: 2,
-        library: |c| {
-            let out = c.second.get_mut();
-            ffi::show_name(c.first.get(), out, c.numbers.get_mut()).into()
-        },
-        expected: |c| outcome(reference::show_name(c.first.get(), c.second.get_mut())),
+        library: |c| ffi::show_name(c.first.get(), c.second.get_mut()).into(),
+        expected: |c| reference::show_name(c.first.get(), c.second.get_mut()).into(),
     },
     APPLY_EDIT,
     Routine {
-        name: "apply_edit, every parameter and value",
+        inputs: ", every parameter and value",
         source: Source::Every(65_536, calls::every_edit),
         ..APPLY_EDIT
     },
     Routine {
         name: "apply_bus_edit",
+        inputs: "",
         source: Source::Any(calls::apply_bus_edit),
-        results: 2,
-        library: |c| ffi::apply_bus_edit(c.first.get_mut(), c.bytes, c.numbers.get_mut()).into(),
+        library: |c| ffi::apply_bus_edit(c.first.get_mut(), c.bytes).into(),
         expected: |c| {
             let [bus, source, amount, destination] = c.bytes;
             let patch = c.first.get_mut();
-            outcome(reference::apply_bus_edit(
-                patch,
-                bus,
-                source,
-                amount,
-                destination,
-            ))
+            reference::apply_bus_edit(patch, bus, source, amount, destination).into()
         },
     },
     Routine {
         name: "write_patch",
+        inputs: "",
         source: Source::Any(calls::write_patch),
-        results: 2,
-        library: |c| {
-            let out = c.second.get_mut();
-            ffi::write_patch(c.bytes[0], c.first.get(), out, c.numbers.get_mut()).into()
-        },
+        library: |c| ffi::write_patch(c.bytes[0], c.first.get(), c.second.get_mut()).into(),
         expected: |c| {
             let out = c.second.get_mut();
-            outcome(reference::write_patch(c.bytes[0], c.first.get(), out))
+            reference::write_patch(c.bytes[0], c.first.get(), out).into()
         },
     },
     Routine {
         name: "write_edit_buffer",
+        inputs: "",
         source: Source::Any(calls::write_edit_buffer),
-        results: 2,
-        library: |c| {
-            let out = c.second.get_mut();
-            ffi::write_edit_buffer(c.first.get(), out, c.numbers.get_mut()).into()
-        },
-        expected: |c| {
-            let out = c.second.get_mut();
-            outcome(reference::write_edit_buffer(c.first.get(), out))
-        },
+        library: |c| ffi::write_edit_buffer(c.first.get(), c.second.get_mut()).into(),
+        expected: |c| reference::write_edit_buffer(c.first.get(), c.second.get_mut()).into(),
     },
     Routine {
         name: "write_master",
+        inputs: "",
         source: Source::Any(calls::write_master),
-        results: 2,
-        library: |c| {
-            let out = c.second.get_mut();
-            ffi::write_master(c.first.get(), out, c.numbers.get_mut()).into()
-        },
-        expected: |c| outcome(reference::write_master(c.first.get(), c.second.get_mut())),
+        library: |c| ffi::write_master(c.first.get(), c.second.get_mut()).into(),
+        expected: |c| reference::write_master(c.first.get(), c.second.get_mut()).into(),
     },
     WRITE_EDIT,
     Routine {
-        name: "write_edit, every parameter and value",
+        inputs: ", every parameter and value",
         source: Source::Every(65_536, calls::every_edit),
         ..WRITE_EDIT
     },
     Routine {
         name: "write_bus_edit",
+        inputs: "",
         source: Source::Any(calls::write_bus_edit),
-        results: 2,
-        library: |c| ffi::write_bus_edit(c.bytes, c.second.get_mut(), c.numbers.get_mut()).into(),
+        library: |c| ffi::write_bus_edit(c.bytes, c.second.get_mut()).into(),
         expected: |c| {
             let [bus, source, amount, destination] = c.bytes;
             let out = c.second.get_mut();
-            outcome(reference::write_bus_edit(
-                bus,
-                source,
-                amount,
-                destination,
-                out,
-            ))
+            reference::write_bus_edit(bus, source, amount, destination, out).into()
         },
     },
     Routine {
         name: "write_bank",
+        inputs: "",
         source: Source::Any(calls::write_bank),
-        results: 3,
-        library: |c| {
-            let out = c.second.get_mut();
-            ffi::write_bank(c.first.get(), out, c.numbers.get_mut()).into()
-        },
-        expected: |c| bank(reference::write_bank(c.first.get(), c.second.get_mut())),
+        library: |c| ffi::write_bank(c.first.get(), c.second.get_mut()).into(),
+        expected: |c| reference::write_bank(c.first.get(), c.second.get_mut()).into(),
     },
 ];

@@ -1,7 +1,7 @@
 //! Edits: of one field, and of one modulation bus.
 
 use crate::ffi;
-use crate::{Bus, Error, Parameter, Patch};
+use crate::{Bus, Error, NotAllowed, Parameter, Patch};
 
 /// A remote edit (06H): a parameter and its value, in the field's range.
 ///
@@ -16,9 +16,9 @@ use crate::{Bus, Error, Parameter, Patch};
 /// ```
 #[derive(Clone, Copy, Debug, PartialEq, Eq, Hash)]
 pub struct Edit {
-    pub(crate) parameter: Parameter,
+    parameter: Parameter,
     /// The seven bits that are sent.
-    pub(crate) value: u8,
+    value: u8,
 }
 
 /// A matrix modulation edit (0BH): a bus and what it is to hold.
@@ -30,7 +30,8 @@ pub struct Edit {
 /// let mut patch = Patch::default();
 /// patch.apply_bus(BusEdit::new(0, bus)?);
 /// assert_eq!(patch.bus(0), Some(bus));
-/// assert_eq!(BusEdit::new(10, bus), Err(Error::NotAllowed));
+/// let refused = BusEdit::new(10, bus).unwrap_err();
+/// assert_eq!(refused.to_string(), "bus 10 is not allowed: 0 to 9");
 /// # Ok::<(), Error>(())
 /// ```
 #[derive(Clone, Copy, Debug, PartialEq, Eq, Hash)]
@@ -66,13 +67,10 @@ impl Edit {
     /// [`Error::NotAllowed`] for a number that is no parameter's and a value above 127, then
     /// [`Error::OutOfRange`].
     pub fn from_bytes(parameter: u8, value: u8) -> Result<Self, Error> {
-        let mut numbers = [0; 2];
-        let answer = ffi::write_edit(parameter, value, &mut [], &mut numbers);
-        Error::check_without_room(answer, numbers[1])?;
-        Ok(Self {
-            parameter: Parameter::try_from(parameter)?,
-            value,
-        })
+        let tested = ffi::write_edit(parameter, value, &mut []);
+        let parameter = Parameter::try_from(parameter)?;
+        Error::tested(tested, |_| Error::NotAllowed(NotAllowed::Value(value)))?;
+        Ok(Self { parameter, value })
     }
 
     /// The parameter.
@@ -126,10 +124,15 @@ impl BusEdit {
     /// [`Error::NotAllowed`] for a bus above 9 and an amount above 127, then [`Error::OutOfRange`]
     /// and [`Error::HalfUsed`].
     pub fn from_bytes(bytes: [u8; 4]) -> Result<Self, Error> {
-        let mut numbers = [0; 2];
-        let answer = ffi::write_bus_edit(bytes, &mut [], &mut numbers);
-        Error::check_without_room(answer, numbers[1])?;
         let [number, source, amount, destination] = bytes;
+        Error::tested(ffi::write_bus_edit(bytes, &mut []), |_| {
+            let bus = usize::from(number);
+            Error::NotAllowed(if bus < Patch::BUSES {
+                NotAllowed::Amount(amount)
+            } else {
+                NotAllowed::Bus(bus)
+            })
+        })?;
         Ok(Self {
             number,
             source,
@@ -149,13 +152,30 @@ impl BusEdit {
     pub fn bus(self) -> Bus {
         let mut patch = Patch::default();
         patch.apply_bus(self);
-        let bus = patch.bus(self.number.into());
-        bus.expect("a tested edit has a bus")
+        patch.buses()[usize::from(self.number)]
     }
 
     /// Bus, source, seven bits of the amount, destination, as they are sent.
     #[must_use]
     pub const fn bytes(self) -> [u8; 4] {
         [self.number, self.source, self.amount, self.destination]
+    }
+}
+
+/// An edit as it is sent, as [`Edit::from_bytes`] takes it.
+impl TryFrom<[u8; 2]> for Edit {
+    type Error = Error;
+
+    fn try_from([parameter, value]: [u8; 2]) -> Result<Self, Error> {
+        Self::from_bytes(parameter, value)
+    }
+}
+
+/// An edit as it is sent, as [`BusEdit::from_bytes`] takes it.
+impl TryFrom<[u8; 4]> for BusEdit {
+    type Error = Error;
+
+    fn try_from(bytes: [u8; 4]) -> Result<Self, Error> {
+        Self::from_bytes(bytes)
     }
 }

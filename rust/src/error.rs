@@ -1,18 +1,31 @@
 //! Refusals.
 
-use std::fmt;
+use std::{fmt, io};
 
-/// Why something was refused: the register's number with its detail, and a sentence in print.
+use crate::ffi;
+use crate::patch;
+use crate::{Bank, Kind, Master, Parameter, Patch};
+
+/// Why something was refused: the register's number with its detail, and in print a sentence that says
+/// what was found and what is expected.
 ///
 /// ```
-/// use matrix1000::{Error, Patch};
+/// use matrix1000::{Error, NotAllowed, Patch};
 ///
 /// let error = Patch::try_from([0; 134]).unwrap_err();
 /// assert_eq!(error, Error::OutOfRange { place: 76 });
 /// assert_eq!((error.number(), error.detail()), (11, 76));
-/// assert_eq!(error.to_string(), "the field at byte 76 of the patch is out of range");
+/// assert_eq!(
+///     error.to_string(),
+///     "Tracking Generator Input Source Code, byte 76 of the patch, is out of range: 1 to 20"
+/// );
+///
+/// let error = Patch::default().set_name("Bass 1  ").unwrap_err();
+/// assert_eq!(error, Error::NotAllowed(NotAllowed::Character('a')));
+/// assert_eq!(error.number(), 8);
 /// ```
 #[derive(Clone, Copy, Debug, PartialEq, Eq, Hash)]
+#[non_exhaustive]
 pub enum Error {
     /// 1: there is no message.
     NoMessage,
@@ -26,10 +39,10 @@ pub enum Error {
     OtherDevice,
     /// 6: the opcode is not among the five, or there is none.
     OtherOpcode,
-    /// 7: the length is wrong, of a message or of a patch, bank, master or name.
-    WrongLength,
-    /// 8: a patch number, version, parameter, bus, name character, value or amount is not allowed.
-    NotAllowed,
+    /// 7: the length is wrong.
+    WrongLength(Length),
+    /// 8: a number or character is not allowed.
+    NotAllowed(NotAllowed),
     /// 9: a data byte is above 15.
     WideData {
         /// The first one's index in the data.
@@ -48,9 +61,68 @@ pub enum Error {
         bus: usize,
     },
     /// 13: the output is too short.
-    NoRoom,
+    NoRoom {
+        /// How many bytes are to be written.
+        needed: usize,
+        /// How many there is room for.
+        given: usize,
+    },
     /// 14: a modulation amount lies outside -64 to 63.
     WrongAmount,
+}
+
+/// What has a wrong length, and how many bytes were found.
+#[derive(Clone, Copy, Debug, PartialEq, Eq, Hash)]
+#[non_exhaustive]
+pub enum Length {
+    /// A message, without real time.
+    Message {
+        /// What its opcode says it is.
+        kind: Kind,
+        /// Its length, F0H and F7H included.
+        found: usize,
+    },
+    /// The packed bytes of a patch.
+    Patch(usize),
+    /// The packed bytes of a bank.
+    Bank(usize),
+    /// The packed bytes of a master.
+    Master(usize),
+    /// The text of a name.
+    Name(usize),
+}
+
+/// What is not allowed where it was found.
+#[derive(Clone, Copy, Debug, PartialEq, Eq, Hash)]
+#[non_exhaustive]
+pub enum NotAllowed {
+    /// As the number of a patch.
+    PatchNumber(u8),
+    /// As the version of a master.
+    Version(u8),
+    /// Behind the opcode of a patch to the edit buffer.
+    Zero(u8),
+    /// As a parameter number.
+    Parameter(u8),
+    /// As a bus.
+    Bus(usize),
+    /// As the value of an edit: more than seven bits.
+    Value(u8),
+    /// As the amount of an edit: more than seven bits.
+    Amount(u8),
+    /// In a name.
+    Character(char),
+}
+
+/// A refusal of which the register does not say what it speaks of. Whoever called does.
+#[derive(Clone, Copy)]
+pub(crate) enum Bare {
+    /// 7.
+    Length,
+    /// 8.
+    Number,
+    /// 13.
+    Room,
 }
 
 impl Error {
@@ -64,13 +136,13 @@ impl Error {
             Self::OtherMaker => 4,
             Self::OtherDevice => 5,
             Self::OtherOpcode => 6,
-            Self::WrongLength => 7,
-            Self::NotAllowed => 8,
+            Self::WrongLength(_) => 7,
+            Self::NotAllowed(_) => 8,
             Self::WideData { .. } => 9,
             Self::WrongSum => 10,
             Self::OutOfRange { .. } => 11,
             Self::HalfUsed { .. } => 12,
-            Self::NoRoom => 13,
+            Self::NoRoom { .. } => 13,
             Self::WrongAmount => 14,
         }
     }
@@ -86,8 +158,13 @@ impl Error {
         }
     }
 
-    /// The detail of a call that was done, else its refusal.
-    pub(crate) fn check(answer: u8, detail: usize) -> Result<usize, Self> {
+    /// The one place where an outcome is taken over: its detail where the call was done, else its
+    /// refusal.
+    pub(crate) fn check(
+        outcome: ffi::Outcome,
+        about: impl FnOnce(Bare) -> Self,
+    ) -> Result<usize, Self> {
+        let ffi::Outcome { answer, detail } = outcome;
         Err(match answer {
             0 => return Ok(detail),
             1 => Self::NoMessage,
@@ -96,23 +173,26 @@ impl Error {
             4 => Self::OtherMaker,
             5 => Self::OtherDevice,
             6 => Self::OtherOpcode,
-            7 => Self::WrongLength,
-            8 => Self::NotAllowed,
+            7 => about(Bare::Length),
+            8 => about(Bare::Number),
             9 => Self::WideData { index: detail },
             10 => Self::WrongSum,
             11 => Self::OutOfRange { place: detail },
             12 => Self::HalfUsed { bus: detail },
-            13 => Self::NoRoom,
+            13 => about(Bare::Room),
             14 => Self::WrongAmount,
             _ => unreachable!("the register has no number {answer}"),
         })
     }
 
     /// Of a writer that was lent no room: 13 says that every test before it was passed.
-    pub(crate) fn check_without_room(answer: u8, detail: usize) -> Result<(), Self> {
-        match Self::check(answer, detail) {
-            Ok(_) | Err(Self::NoRoom) => Ok(()),
-            Err(error) => Err(error),
+    pub(crate) fn tested(
+        outcome: ffi::Outcome,
+        about: impl FnOnce(Bare) -> Self,
+    ) -> Result<(), Self> {
+        match outcome.answer {
+            13 => Ok(()),
+            _ => Self::check(outcome, about).map(drop),
         }
     }
 }
@@ -126,24 +206,98 @@ impl fmt::Display for Error {
             Self::OtherMaker => f.write_str("the message is another manufacturer's, or empty"),
             Self::OtherDevice => f.write_str("the message is for another device, or for none"),
             Self::OtherOpcode => f.write_str("the message is not of a kind that is read here"),
-            Self::WrongLength => f.write_str("the length is wrong for the kind"),
-            Self::NotAllowed => f.write_str("a number or character is not allowed"),
+            Self::WrongLength(length) => length.fmt(f),
+            Self::NotAllowed(what) => what.fmt(f),
             Self::WideData { index } => write!(f, "data byte {index} is above 15"),
             Self::WrongSum => f.write_str("the checksum does not fit the data"),
-            Self::OutOfRange { place } => {
-                write!(f, "the field at byte {place} of the patch is out of range")
+            Self::OutOfRange { place } if *place >= Patch::LENGTH => {
+                write!(f, "byte {place} of the patch is out of range")
             }
-            Self::HalfUsed { bus } => write!(f, "modulation bus {bus} is half used"),
-            Self::NoRoom => f.write_str("the output is too short"),
+            Self::OutOfRange { place } => {
+                let (what, range) = (patch::field_at(*place), patch::range_at(*place));
+                let (least, greatest) = range.into_inner();
+                write!(
+                    f,
+                    "{what}, byte {place} of the patch, is out of range: {least} to {greatest}"
+                )
+            }
+            Self::HalfUsed { bus } => write!(
+                f,
+                "modulation bus {bus} is half used: source and destination are both zero or both not"
+            ),
+            Self::NoRoom { needed, given } => {
+                write!(f, "the output has {given} bytes, and {needed} are needed")
+            }
             Self::WrongAmount => f.write_str("a modulation amount lies outside -64 to 63"),
+        }
+    }
+}
+
+impl fmt::Display for Length {
+    fn fmt(&self, f: &mut fmt::Formatter<'_>) -> fmt::Result {
+        match self {
+            Self::Message { kind, found } => {
+                let length = kind.length();
+                write!(f, "a {kind} message has {length} bytes, not {found}")
+            }
+            Self::Patch(found) => write!(f, "a patch has {} bytes, not {found}", Patch::LENGTH),
+            Self::Bank(found) => write!(
+                f,
+                "a bank has {} bytes for each of at most {} patches, not {found} in all",
+                Patch::LENGTH,
+                Bank::PATCHES
+            ),
+            Self::Master(found) => write!(f, "a master has {} bytes, not {found}", Master::LENGTH),
+            Self::Name(found) => write!(
+                f,
+                "a name has {} bytes, filled up with spaces, not {found}",
+                Patch::NAME_LENGTH
+            ),
+        }
+    }
+}
+
+impl fmt::Display for NotAllowed {
+    fn fmt(&self, f: &mut fmt::Formatter<'_>) -> fmt::Result {
+        match self {
+            Self::PatchNumber(found) => {
+                let last = Bank::PATCHES - 1;
+                write!(f, "patch number {found} is not allowed: 0 to {last}")
+            }
+            Self::Version(found) => write!(f, "version {found} of a master is not allowed: 3"),
+            Self::Zero(found) => {
+                let kind = Kind::EditBuffer;
+                write!(f, "{found} behind the opcode of a {kind} is not allowed: 0")
+            }
+            Self::Parameter(found) => {
+                let count = Parameter::all().count();
+                write!(f, "parameter {found} is not one of the {count} of a patch")
+            }
+            Self::Bus(found) => {
+                let last = Patch::BUSES - 1;
+                write!(f, "bus {found} is not allowed: 0 to {last}")
+            }
+            Self::Value(found) => write!(f, "value byte {found} is not allowed: 0 to 127"),
+            Self::Amount(found) => write!(f, "amount byte {found} is not allowed: 0 to 127"),
+            Self::Character(found) => write!(
+                f,
+                "{found:?} is not allowed in a name: space to underscore, so no small letters"
+            ),
         }
     }
 }
 
 impl std::error::Error for Error {}
 
+impl From<Error> for io::Error {
+    fn from(error: Error) -> Self {
+        Self::new(io::ErrorKind::InvalidInput, error)
+    }
+}
+
 /// Why a bank was refused, and for which patch.
 #[derive(Clone, Copy, Debug, PartialEq, Eq, Hash)]
+#[non_exhaustive]
 pub struct BankError {
     /// The number of the lowest bad patch with [`Error::OutOfRange`] and [`Error::HalfUsed`], else 0.
     pub patch: usize,
@@ -158,7 +312,7 @@ impl fmt::Display for BankError {
             Error::OutOfRange { .. } | Error::HalfUsed { .. } => {
                 write!(f, "patch {patch} of the bank: {error}")
             }
-            _ => write!(f, "the bank: {error}"),
+            _ => error.fmt(f),
         }
     }
 }

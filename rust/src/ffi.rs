@@ -1,4 +1,4 @@
-//! The library's functions behind safe ones. All unsafe code of the package is here.
+//! The library's functions behind safe ones, and its structs. All unsafe code of the package is here.
 //!
 //! The library takes a slice as a pointer and a length. Each call below is sound for the same three
 //! reasons. A pointer and its length are those of one Rust slice, so the pointer is aligned and not
@@ -6,41 +6,103 @@
 //! what the library does with it. A slice that the library may write is `&mut`, so none of the other
 //! slices of the call overlaps it. And the library keeps no pointer after it returns, asks nothing
 //! else of its arguments, and is proved to stay inside the slices for all of them.
-//!
-//! `numbers` takes the results, as many as the comment says. Where it is shorter nothing is changed
-//! and the answer is 13; where it is longer the rest is kept. A function with `numbers` returns its answer.
+
+/// What a call came to.
+#[repr(C)]
+#[derive(Clone, Copy, Debug, PartialEq, Eq)]
+pub struct Outcome {
+    /// One of the register's numbers.
+    pub answer: u8,
+    /// What the register names for that number, else 0.
+    pub detail: usize,
+}
+
+/// What is said of a message.
+#[repr(C)]
+#[derive(Clone, Copy, Debug, PartialEq, Eq)]
+pub struct Report {
+    /// The place of its F0H.
+    pub start: usize,
+    /// The place behind it.
+    pub end: usize,
+    /// Done with the opcode as detail, or the refusal.
+    pub outcome: Outcome,
+}
+
+/// The same with the bytes that come with the message.
+#[repr(C)]
+#[derive(Clone, Copy, Debug, PartialEq, Eq)]
+pub struct Reading {
+    /// What is said of it.
+    pub report: Report,
+    /// A patch number, or an edit's two or four bytes; zero elsewhere.
+    pub bytes: [u8; 4],
+}
+
+/// What writing a bank came to.
+#[repr(C)]
+#[derive(Clone, Copy, Debug, PartialEq, Eq)]
+pub struct BankOutcome {
+    /// What the call came to.
+    pub outcome: Outcome,
+    /// The number of the lowest bad patch with answers 11 and 12, else 0.
+    pub place: usize,
+}
+
+/// What listing reports came to.
+#[repr(C)]
+#[derive(Clone, Copy, Debug, PartialEq, Eq)]
+pub struct Listed {
+    /// How many reports were made.
+    pub count: usize,
+    /// The place to go on from.
+    pub next: usize,
+}
+
+/// The most reports that the library makes in a call.
+pub const A_CALL: usize = 8;
+
+/// A report as it stands in the room that is lent for reports.
+pub type Flat = [usize; 4];
+
+/// Room for a report.
+pub const EMPTY: Flat = [0; 4];
+
+impl From<Flat> for Report {
+    #[inline]
+    fn from([start, end, answer, detail]: Flat) -> Self {
+        let answer = u8::try_from(answer).expect("an answer is a byte");
+        Self {
+            start,
+            end,
+            outcome: Outcome { answer, detail },
+        }
+    }
+}
+
+/// What the table gives where a parameter has no place, or a place no parameter.
+pub const NONE: u8 = 255;
 
 mod raw {
+    use super::{BankOutcome, Listed, Outcome, Reading, Report};
+
     unsafe extern "C" {
-        pub unsafe fn matrix_walk(
-            s: *const u8,
-            s_len: usize,
-            place: usize,
-            numbers: *mut usize,
-            numbers_len: usize,
-        ) -> u8;
+        pub unsafe fn matrix_walk(s: *const u8, s_len: usize, place: usize) -> Report;
         pub unsafe fn matrix_read(
             s: *const u8,
             s_len: usize,
             place: usize,
             buffer: *mut u8,
             buffer_len: usize,
-            numbers: *mut usize,
-            numbers_len: usize,
-        ) -> u8;
+        ) -> Reading;
         pub unsafe fn matrix_reports(
             s: *const u8,
             s_len: usize,
             place: usize,
             room: *mut usize,
             room_len: usize,
-        ) -> usize;
-        pub unsafe fn matrix_test_patch(
-            p: *const u8,
-            p_len: usize,
-            numbers: *mut usize,
-            numbers_len: usize,
-        ) -> u8;
+        ) -> Listed;
+        pub unsafe fn matrix_test_patch(p: *const u8, p_len: usize) -> Outcome;
         pub safe fn matrix_place_of(parameter: u8) -> u8;
         pub safe fn matrix_parameter_of(place: u8) -> u8;
         pub unsafe fn matrix_set_name(
@@ -48,25 +110,19 @@ mod raw {
             p_len: usize,
             text: *const u8,
             text_len: usize,
-            numbers: *mut usize,
-            numbers_len: usize,
-        ) -> u8;
+        ) -> Outcome;
         pub unsafe fn matrix_show_name(
             p: *const u8,
             p_len: usize,
             out: *mut u8,
             out_len: usize,
-            numbers: *mut usize,
-            numbers_len: usize,
-        ) -> u8;
+        ) -> Outcome;
         pub unsafe fn matrix_apply_edit(
             p: *mut u8,
             p_len: usize,
             parameter: u8,
             value: u8,
-            numbers: *mut usize,
-            numbers_len: usize,
-        ) -> u8;
+        ) -> Outcome;
         pub unsafe fn matrix_apply_bus_edit(
             p: *mut u8,
             p_len: usize,
@@ -74,42 +130,32 @@ mod raw {
             source: u8,
             amount: u8,
             destination: u8,
-            numbers: *mut usize,
-            numbers_len: usize,
-        ) -> u8;
+        ) -> Outcome;
         pub unsafe fn matrix_write_patch(
             number: u8,
             p: *const u8,
             p_len: usize,
             out: *mut u8,
             out_len: usize,
-            numbers: *mut usize,
-            numbers_len: usize,
-        ) -> u8;
+        ) -> Outcome;
         pub unsafe fn matrix_write_edit_buffer(
             p: *const u8,
             p_len: usize,
             out: *mut u8,
             out_len: usize,
-            numbers: *mut usize,
-            numbers_len: usize,
-        ) -> u8;
+        ) -> Outcome;
         pub unsafe fn matrix_write_master(
             m: *const u8,
             m_len: usize,
             out: *mut u8,
             out_len: usize,
-            numbers: *mut usize,
-            numbers_len: usize,
-        ) -> u8;
+        ) -> Outcome;
         pub unsafe fn matrix_write_edit(
             parameter: u8,
             value: u8,
             out: *mut u8,
             out_len: usize,
-            numbers: *mut usize,
-            numbers_len: usize,
-        ) -> u8;
+        ) -> Outcome;
         pub unsafe fn matrix_write_bus_edit(
             bus: u8,
             source: u8,
@@ -117,43 +163,27 @@ mod raw {
             destination: u8,
             out: *mut u8,
             out_len: usize,
-            numbers: *mut usize,
-            numbers_len: usize,
-        ) -> u8;
+        ) -> Outcome;
         pub unsafe fn matrix_write_bank(
             ps: *const u8,
             ps_len: usize,
             out: *mut u8,
             out_len: usize,
-            numbers: *mut usize,
-            numbers_len: usize,
-        ) -> u8;
+        ) -> BankOutcome;
     }
 }
 
-/// What the table gives where a parameter has no place, or a place no parameter.
-pub const NONE: u8 = 255;
-
-/// The first message that starts at `place` or later: start, end, answer, detail.
+/// The first message that starts at `place` or later.
 #[inline]
-pub fn walk(s: &[u8], place: usize, numbers: &mut [usize]) -> u8 {
-    // SAFETY: two slices with their own lengths; `numbers`, which is written, is `&mut`.
-    unsafe {
-        raw::matrix_walk(
-            s.as_ptr(),
-            s.len(),
-            place,
-            numbers.as_mut_ptr(),
-            numbers.len(),
-        )
-    }
+pub fn walk(s: &[u8], place: usize) -> Report {
+    // SAFETY: one slice with its own length, not written.
+    unsafe { raw::matrix_walk(s.as_ptr(), s.len(), place) }
 }
 
-/// The same with a dump's packed bytes into the buffer: start, end, answer, detail, four bytes.
+/// The same with a dump's packed bytes into the buffer.
 #[inline]
-pub fn read(s: &[u8], place: usize, buffer: &mut [u8], numbers: &mut [usize]) -> u8 {
-    // SAFETY: three slices with their own lengths; `buffer` and `numbers`, which are written, are
-    // `&mut`.
+pub fn read(s: &[u8], place: usize, buffer: &mut [u8]) -> Reading {
+    // SAFETY: two slices with their own lengths; `buffer`, which is written, is `&mut`.
     unsafe {
         raw::matrix_read(
             s.as_ptr(),
@@ -161,24 +191,22 @@ pub fn read(s: &[u8], place: usize, buffer: &mut [u8], numbers: &mut [usize]) ->
             place,
             buffer.as_mut_ptr(),
             buffer.len(),
-            numbers.as_mut_ptr(),
-            numbers.len(),
         )
     }
 }
 
-/// The reports from a place on, four numbers each, at most eight; returns how many.
+/// The reports from a place on into the room, at most [`A_CALL`].
 #[inline]
-pub fn reports(s: &[u8], place: usize, room: &mut [usize]) -> usize {
+pub fn reports(s: &[u8], place: usize, room: &mut [usize]) -> Listed {
     // SAFETY: two slices with their own lengths; `room`, which is written, is `&mut`.
     unsafe { raw::matrix_reports(s.as_ptr(), s.len(), place, room.as_mut_ptr(), room.len()) }
 }
 
-/// Tests a patch: answer, detail.
+/// Tests a patch.
 #[inline]
-pub fn test_patch(p: &[u8], numbers: &mut [usize]) -> u8 {
-    // SAFETY: two slices with their own lengths; `numbers`, which is written, is `&mut`.
-    unsafe { raw::matrix_test_patch(p.as_ptr(), p.len(), numbers.as_mut_ptr(), numbers.len()) }
+pub fn test_patch(p: &[u8]) -> Outcome {
+    // SAFETY: one slice with its own length, not written.
+    unsafe { raw::matrix_test_patch(p.as_ptr(), p.len()) }
 }
 
 /// The byte place of a parameter, or [`NONE`].
@@ -193,147 +221,68 @@ pub fn parameter_of(place: u8) -> u8 {
     raw::matrix_parameter_of(place)
 }
 
-/// Sets a patch's name: answer, detail.
+/// Sets a patch's name.
 #[inline]
-pub fn set_name(p: &mut [u8], text: &[u8], numbers: &mut [usize]) -> u8 {
-    // SAFETY: three slices with their own lengths; `p` and `numbers`, which are written, are `&mut`.
-    unsafe {
-        raw::matrix_set_name(
-            p.as_mut_ptr(),
-            p.len(),
-            text.as_ptr(),
-            text.len(),
-            numbers.as_mut_ptr(),
-            numbers.len(),
-        )
-    }
+pub fn set_name(p: &mut [u8], text: &[u8]) -> Outcome {
+    // SAFETY: two slices with their own lengths; `p`, which is written, is `&mut`.
+    unsafe { raw::matrix_set_name(p.as_mut_ptr(), p.len(), text.as_ptr(), text.len()) }
 }
 
-/// A patch's name as text: answer, detail.
+/// A patch's name as text.
 #[inline]
-pub fn show_name(p: &[u8], out: &mut [u8], numbers: &mut [usize]) -> u8 {
-    // SAFETY: three slices with their own lengths; `out` and `numbers`, which are written, are
-    // `&mut`.
-    unsafe {
-        raw::matrix_show_name(
-            p.as_ptr(),
-            p.len(),
-            out.as_mut_ptr(),
-            out.len(),
-            numbers.as_mut_ptr(),
-            numbers.len(),
-        )
-    }
+pub fn show_name(p: &[u8], out: &mut [u8]) -> Outcome {
+    // SAFETY: two slices with their own lengths; `out`, which is written, is `&mut`.
+    unsafe { raw::matrix_show_name(p.as_ptr(), p.len(), out.as_mut_ptr(), out.len()) }
 }
 
-/// Applies a remote edit: answer, detail.
+/// Applies a remote edit.
 #[inline]
-pub fn apply_edit(p: &mut [u8], parameter: u8, value: u8, numbers: &mut [usize]) -> u8 {
-    // SAFETY: two slices with their own lengths; both are written and both are `&mut`.
-    unsafe {
-        raw::matrix_apply_edit(
-            p.as_mut_ptr(),
-            p.len(),
-            parameter,
-            value,
-            numbers.as_mut_ptr(),
-            numbers.len(),
-        )
-    }
+pub fn apply_edit(p: &mut [u8], parameter: u8, value: u8) -> Outcome {
+    // SAFETY: one slice with its own length; `p`, which is written, is `&mut`.
+    unsafe { raw::matrix_apply_edit(p.as_mut_ptr(), p.len(), parameter, value) }
 }
 
-/// Applies a matrix modulation edit, its bytes in the message's order: answer, detail.
+/// Applies a matrix modulation edit, its bytes in the message's order.
 #[inline]
-pub fn apply_bus_edit(p: &mut [u8], edit: [u8; 4], numbers: &mut [usize]) -> u8 {
+pub fn apply_bus_edit(p: &mut [u8], edit: [u8; 4]) -> Outcome {
     let [bus, source, amount, destination] = edit;
-    // SAFETY: two slices with their own lengths; both are written and both are `&mut`.
-    unsafe {
-        raw::matrix_apply_bus_edit(
-            p.as_mut_ptr(),
-            p.len(),
-            bus,
-            source,
-            amount,
-            destination,
-            numbers.as_mut_ptr(),
-            numbers.len(),
-        )
-    }
+    // SAFETY: one slice with its own length; `p`, which is written, is `&mut`.
+    unsafe { raw::matrix_apply_bus_edit(p.as_mut_ptr(), p.len(), bus, source, amount, destination) }
 }
 
-/// Writes a single patch (01H): answer, detail.
+/// Writes a single patch (01H).
 #[inline]
-pub fn write_patch(number: u8, p: &[u8], out: &mut [u8], numbers: &mut [usize]) -> u8 {
-    // SAFETY: three slices with their own lengths; `out` and `numbers`, which are written, are
-    // `&mut`.
-    unsafe {
-        raw::matrix_write_patch(
-            number,
-            p.as_ptr(),
-            p.len(),
-            out.as_mut_ptr(),
-            out.len(),
-            numbers.as_mut_ptr(),
-            numbers.len(),
-        )
-    }
+pub fn write_patch(number: u8, p: &[u8], out: &mut [u8]) -> Outcome {
+    // SAFETY: two slices with their own lengths; `out`, which is written, is `&mut`.
+    unsafe { raw::matrix_write_patch(number, p.as_ptr(), p.len(), out.as_mut_ptr(), out.len()) }
 }
 
-/// Writes a patch to the edit buffer (0DH): answer, detail.
+/// Writes a patch to the edit buffer (0DH).
 #[inline]
-pub fn write_edit_buffer(p: &[u8], out: &mut [u8], numbers: &mut [usize]) -> u8 {
-    // SAFETY: three slices with their own lengths; `out` and `numbers`, which are written, are
-    // `&mut`.
-    unsafe {
-        raw::matrix_write_edit_buffer(
-            p.as_ptr(),
-            p.len(),
-            out.as_mut_ptr(),
-            out.len(),
-            numbers.as_mut_ptr(),
-            numbers.len(),
-        )
-    }
+pub fn write_edit_buffer(p: &[u8], out: &mut [u8]) -> Outcome {
+    // SAFETY: two slices with their own lengths; `out`, which is written, is `&mut`.
+    unsafe { raw::matrix_write_edit_buffer(p.as_ptr(), p.len(), out.as_mut_ptr(), out.len()) }
 }
 
-/// Writes a master (03H): answer, detail.
+/// Writes a master (03H).
 #[inline]
-pub fn write_master(m: &[u8], out: &mut [u8], numbers: &mut [usize]) -> u8 {
-    // SAFETY: three slices with their own lengths; `out` and `numbers`, which are written, are
-    // `&mut`.
-    unsafe {
-        raw::matrix_write_master(
-            m.as_ptr(),
-            m.len(),
-            out.as_mut_ptr(),
-            out.len(),
-            numbers.as_mut_ptr(),
-            numbers.len(),
-        )
-    }
+pub fn write_master(m: &[u8], out: &mut [u8]) -> Outcome {
+    // SAFETY: two slices with their own lengths; `out`, which is written, is `&mut`.
+    unsafe { raw::matrix_write_master(m.as_ptr(), m.len(), out.as_mut_ptr(), out.len()) }
 }
 
-/// Writes a remote edit (06H): answer, detail.
+/// Writes a remote edit (06H).
 #[inline]
-pub fn write_edit(parameter: u8, value: u8, out: &mut [u8], numbers: &mut [usize]) -> u8 {
-    // SAFETY: two slices with their own lengths; both are written and both are `&mut`.
-    unsafe {
-        raw::matrix_write_edit(
-            parameter,
-            value,
-            out.as_mut_ptr(),
-            out.len(),
-            numbers.as_mut_ptr(),
-            numbers.len(),
-        )
-    }
+pub fn write_edit(parameter: u8, value: u8, out: &mut [u8]) -> Outcome {
+    // SAFETY: one slice with its own length; `out`, which is written, is `&mut`.
+    unsafe { raw::matrix_write_edit(parameter, value, out.as_mut_ptr(), out.len()) }
 }
 
-/// Writes a matrix modulation edit (0BH), its bytes in the message's order: answer, detail.
+/// Writes a matrix modulation edit (0BH), its bytes in the message's order.
 #[inline]
-pub fn write_bus_edit(edit: [u8; 4], out: &mut [u8], numbers: &mut [usize]) -> u8 {
+pub fn write_bus_edit(edit: [u8; 4], out: &mut [u8]) -> Outcome {
     let [bus, source, amount, destination] = edit;
-    // SAFETY: two slices with their own lengths; both are written and both are `&mut`.
+    // SAFETY: one slice with its own length; `out`, which is written, is `&mut`.
     unsafe {
         raw::matrix_write_bus_edit(
             bus,
@@ -342,25 +291,13 @@ pub fn write_bus_edit(edit: [u8; 4], out: &mut [u8], numbers: &mut [usize]) -> u
             destination,
             out.as_mut_ptr(),
             out.len(),
-            numbers.as_mut_ptr(),
-            numbers.len(),
         )
     }
 }
 
-/// Writes a bank: answer, detail, place.
+/// Writes a bank.
 #[inline]
-pub fn write_bank(ps: &[u8], out: &mut [u8], numbers: &mut [usize]) -> u8 {
-    // SAFETY: three slices with their own lengths; `out` and `numbers`, which are written, are
-    // `&mut`.
-    unsafe {
-        raw::matrix_write_bank(
-            ps.as_ptr(),
-            ps.len(),
-            out.as_mut_ptr(),
-            out.len(),
-            numbers.as_mut_ptr(),
-            numbers.len(),
-        )
-    }
+pub fn write_bank(ps: &[u8], out: &mut [u8]) -> BankOutcome {
+    // SAFETY: two slices with their own lengths; `out`, which is written, is `&mut`.
+    unsafe { raw::matrix_write_bank(ps.as_ptr(), ps.len(), out.as_mut_ptr(), out.len()) }
 }

@@ -21,7 +21,7 @@
 //!         Ok(Message::Patch { number, patch }) => {
 //!             assert_eq!((number, patch.name().as_str()), (7, "BASS 1  "));
 //!         }
-//!         Ok(other) => println!("a {:?}", other.kind()),
+//!         Ok(other) => println!("a {}", other.kind()),
 //!         Err(error) => println!("at {}: {error}", found.start),
 //!     }
 //! }
@@ -36,15 +36,15 @@ mod edits;
 mod error;
 #[allow(unsafe_code)]
 mod ffi;
-mod messages;
+mod message;
 mod parameter;
 mod patch;
+mod stream;
 
 pub use bank::Bank;
 pub use edits::{BusEdit, Edit};
-pub use error::{BankError, Error};
-pub use messages::{
-    messages, report_at, reports, Found, Kind, Master, Message, Messages, Report, Reports,
-};
-pub use parameter::Parameter;
+pub use error::{BankError, Error, Length, NotAllowed};
+pub use message::{to_vec, to_writer, Kind, Master, Message};
+pub use parameter::{Parameter, ParseParameterError};
 pub use patch::{Bus, Patch};
+pub use stream::{messages, report_at, reports, Found, Messages, Report, Reports};

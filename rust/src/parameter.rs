@@ -1,9 +1,11 @@
 //! Parameter numbers, which are never byte places.
 
 use std::fmt;
+use std::ops::RangeInclusive;
+use std::str::FromStr;
 
 use crate::ffi;
-use crate::Error;
+use crate::{patch, Error, NotAllowed, Patch};
 
 /// A parameter number, one of the 96 that have a byte in the patch.
 ///
@@ -11,15 +13,22 @@ use crate::Error;
 /// [`place`](Parameter::place) and [`at`](Parameter::at).
 ///
 /// ```
-/// use matrix1000::{Error, Parameter};
+/// use matrix1000::Parameter;
 ///
-/// assert_eq!(Parameter::VCF_FREQUENCY.number(), 21);
-/// assert_eq!(Parameter::VCF_FREQUENCY.place(), 26);
-/// assert_eq!(Parameter::at(26), Some(Parameter::VCF_FREQUENCY));
-/// assert_eq!(Parameter::try_from(39), Err(Error::NotAllowed));
+/// let cutoff: Parameter = "VCF Initial Frequency".parse()?;
+/// assert_eq!(cutoff, Parameter::VCF_FREQUENCY);
+/// assert_eq!((cutoff.number(), cutoff.place()), (21, 26));
+/// assert_eq!(Parameter::at(26), Some(cutoff));
+/// assert_eq!(cutoff.range(), 0..=127);
+/// assert_eq!(Parameter::DCO_2_DETUNE.range(), -32..=31);
+/// assert_eq!(format!("{cutoff}, {cutoff:?}"), "VCF Initial Frequency, VCF_FREQUENCY(21)");
+///
 /// assert_eq!(Parameter::all().count(), 96);
+/// let refused = Parameter::try_from(39).unwrap_err();
+/// assert_eq!(refused.to_string(), "parameter 39 is not one of the 96 of a patch");
+/// # Ok::<(), matrix1000::ParseParameterError>(())
 /// ```
-#[derive(Clone, Copy, Debug, PartialEq, Eq, PartialOrd, Ord, Hash)]
+#[derive(Clone, Copy, PartialEq, Eq, PartialOrd, Ord, Hash)]
 pub struct Parameter(u8);
 
 impl Parameter {
@@ -47,7 +56,13 @@ impl Parameter {
 
     /// Every parameter, in the order of the patch's bytes.
     pub fn all() -> impl Iterator<Item = Self> {
-        (0..crate::Patch::LENGTH).filter_map(Self::at)
+        (0..Patch::LENGTH).filter_map(Self::at)
+    }
+
+    /// The values that its field takes, asked of the library.
+    #[must_use]
+    pub fn range(self) -> RangeInclusive<i16> {
+        patch::range_at(self.place())
     }
 }
 
@@ -56,7 +71,7 @@ impl TryFrom<u8> for Parameter {
 
     fn try_from(number: u8) -> Result<Self, Error> {
         match ffi::place_of(number) {
-            ffi::NONE => Err(Error::NotAllowed),
+            ffi::NONE => Err(Error::NotAllowed(NotAllowed::Parameter(number))),
             _ => Ok(Self(number)),
         }
     }
@@ -67,6 +82,51 @@ impl fmt::Display for Parameter {
         f.pad(self.name())
     }
 }
+
+impl fmt::Debug for Parameter {
+    fn fmt(&self, f: &mut fmt::Formatter<'_>) -> fmt::Result {
+        write!(f, "{}({})", self.constant(), self.0)
+    }
+}
+
+/// By the name in the maker's listing or that of the constant, in capitals or small letters.
+///
+/// ```
+/// use matrix1000::Parameter;
+///
+/// assert_eq!("mix".parse(), Ok(Parameter::MIX));
+/// assert_eq!("env_1_attack_time".parse(), Ok(Parameter::ENV_1_ATTACK_TIME));
+/// let refused = "volume".parse::<Parameter>().unwrap_err();
+/// assert_eq!(refused.to_string(), "there is no parameter named \"volume\"");
+/// ```
+impl FromStr for Parameter {
+    type Err = ParseParameterError;
+
+    fn from_str(name: &str) -> Result<Self, ParseParameterError> {
+        let is_named = |parameter: &Self| {
+            let names = [parameter.name(), parameter.constant()];
+            names.iter().any(|other| name.eq_ignore_ascii_case(other))
+        };
+        Self::all().find(is_named).ok_or_else(|| {
+            let name = name.to_owned();
+            ParseParameterError { name }
+        })
+    }
+}
+
+/// No parameter has this name.
+#[derive(Clone, Debug, PartialEq, Eq)]
+pub struct ParseParameterError {
+    name: String,
+}
+
+impl fmt::Display for ParseParameterError {
+    fn fmt(&self, f: &mut fmt::Formatter<'_>) -> fmt::Result {
+        write!(f, "there is no parameter named {:?}", self.name)
+    }
+}
+
+impl std::error::Error for ParseParameterError {}
 
 /// A constant for each parameter, and their names.
 macro_rules! parameters {
@@ -83,6 +143,14 @@ macro_rules! parameters {
             pub const fn name(self) -> &'static str {
                 match self.0 {
                     $($number => $name,)*
+                    _ => "",
+                }
+            }
+
+            /// The name of the constant.
+            const fn constant(self) -> &'static str {
+                match self.0 {
+                    $($number => stringify!($constant),)*
                     _ => "",
                 }
             }

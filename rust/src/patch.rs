@@ -1,9 +1,11 @@
 //! The 134 bytes of a patch.
 
 use std::fmt;
+use std::ops::RangeInclusive;
 
+use crate::error::Bare;
 use crate::ffi;
-use crate::{BusEdit, Edit, Error, Parameter};
+use crate::{BusEdit, Edit, Error, Length, NotAllowed, Parameter};
 
 /// A patch: 134 packed bytes, every field in range and no bus half used.
 ///
@@ -33,7 +35,7 @@ pub struct Bus {
     pub source: u8,
     /// The amount, -64 to 63.
     pub amount: i8,
-    /// The destination, 0 to 31; 0 for none.
+    /// The destination; 0 for none.
     pub destination: u8,
 }
 
@@ -47,6 +49,11 @@ impl Patch {
 
     /// The place of bus 0's source; three bytes to a bus.
     const FIRST_BUS: usize = 104;
+
+    /// The patch of bytes that the library has tested.
+    pub(crate) const fn tested(bytes: [u8; Self::LENGTH]) -> Self {
+        Self(bytes)
+    }
 
     /// The packed bytes.
     #[must_use]
@@ -64,8 +71,8 @@ impl Patch {
     #[must_use]
     pub fn name(&self) -> String {
         let mut text = [0; Self::NAME_LENGTH];
-        let mut numbers = [0; 2];
-        ffi::show_name(&self.0, &mut text, &mut numbers);
+        let shown = ffi::show_name(&self.0, &mut text);
+        debug_assert_eq!(shown.answer, 0, "a tested patch, and room");
         text.map(char::from).iter().collect()
     }
 
@@ -76,10 +83,22 @@ impl Patch {
     ///
     /// [`Error::WrongLength`] for more or fewer bytes than eight, [`Error::NotAllowed`] for another
     /// character. The name is then kept.
+    ///
+    /// ```
+    /// use matrix1000::Patch;
+    ///
+    /// let refused = Patch::default().set_name("BASS").unwrap_err();
+    /// assert_eq!(refused.to_string(), "a name has 8 bytes, filled up with spaces, not 4");
+    /// ```
     pub fn set_name(&mut self, name: &str) -> Result<(), Error> {
-        let mut numbers = [0; 2];
-        let answer = ffi::set_name(&mut self.0, name.as_bytes(), &mut numbers);
-        Error::check(answer, numbers[1]).map(drop)
+        let set = ffi::set_name(&mut self.0, name.as_bytes());
+        let about = |bare| match name.chars().find(|&character| !in_names(character)) {
+            Some(refused) if matches!(bare, Bare::Number) => {
+                Error::NotAllowed(NotAllowed::Character(refused))
+            }
+            _ => Error::WrongLength(Length::Name(name.len())),
+        };
+        Error::check(set, about).map(drop)
     }
 
     /// A field's value, with its sign.
@@ -113,7 +132,7 @@ impl Patch {
     /// All ten modulation buses.
     #[must_use]
     pub fn buses(&self) -> [Bus; Self::BUSES] {
-        std::array::from_fn(|number| self.bus(number).expect("there are ten"))
+        std::array::from_fn(|number| self.bus(number).unwrap_or_default())
     }
 
     /// Sets a modulation bus, 0 to 9.
@@ -136,24 +155,59 @@ impl Patch {
     pub fn set_bus(&mut self, number: usize, bus: Bus) -> Result<(), Error> {
         let mut changed = self.0;
         let (buses, _) = changed[Self::FIRST_BUS..].as_chunks_mut();
-        *buses.get_mut(number).ok_or(Error::NotAllowed)? = bus.to_bytes();
+        let bytes = buses.get_mut(number);
+        *bytes.ok_or(Error::NotAllowed(NotAllowed::Bus(number)))? = bus.to_bytes();
         *self = Self::try_from(changed)?;
         Ok(())
     }
 
     /// Applies a remote edit, which changes one field.
     pub fn apply(&mut self, edit: Edit) {
-        let Edit { parameter, value } = edit;
-        let mut numbers = [0; 2];
-        let answer = ffi::apply_edit(&mut self.0, parameter.number(), value, &mut numbers);
-        debug_assert_eq!(answer, 0, "a tested edit of a tested patch");
+        let [parameter, value] = edit.bytes();
+        let applied = ffi::apply_edit(&mut self.0, parameter, value);
+        debug_assert_eq!(applied.answer, 0, "a tested edit of a tested patch");
     }
 
     /// Applies a matrix modulation edit, which changes one bus.
     pub fn apply_bus(&mut self, edit: BusEdit) {
-        let mut numbers = [0; 2];
-        let answer = ffi::apply_bus_edit(&mut self.0, edit.bytes(), &mut numbers);
-        debug_assert_eq!(answer, 0, "a tested edit of a tested patch");
+        let applied = ffi::apply_bus_edit(&mut self.0, edit.bytes());
+        debug_assert_eq!(applied.answer, 0, "a tested edit of a tested patch");
+    }
+}
+
+/// Whether the library takes a character in a name.
+fn in_names(character: char) -> bool {
+    let mut patch = Patch::default();
+    u8::try_from(character).is_ok_and(|byte| {
+        let name = [byte; Patch::NAME_LENGTH];
+        ffi::set_name(&mut patch.0, &name).answer == 0
+    })
+}
+
+/// The values that the library takes at a byte place of a patch, from the least to the greatest.
+pub(crate) fn range_at(place: usize) -> RangeInclusive<i16> {
+    let refusal = Err(Error::OutOfRange { place });
+    let taken = |value: &i8| {
+        let mut bytes = Patch::default().0;
+        bytes[place] = value.cast_unsigned();
+        Patch::try_from(bytes) != refusal
+    };
+    let mut values = (i8::MIN..=i8::MAX).filter(taken).map(i16::from);
+    let least = values.next().expect("a field takes a value");
+    least..=values.next_back().unwrap_or(least)
+}
+
+/// What stands at a byte place of a patch.
+pub(crate) fn field_at(place: usize) -> String {
+    if let Some(parameter) = Parameter::at(place) {
+        return parameter.to_string();
+    }
+    match place.checked_sub(Patch::FIRST_BUS) {
+        None => format!("character {place} of the name"),
+        Some(behind) => {
+            let part = ["source", "amount", "destination"][behind % 3];
+            format!("the {part} of bus {}", behind / 3)
+        }
     }
 }
 
@@ -192,10 +246,9 @@ impl TryFrom<&[u8]> for Patch {
     type Error = Error;
 
     fn try_from(bytes: &[u8]) -> Result<Self, Error> {
-        let mut numbers = [0; 2];
-        let answer = ffi::test_patch(bytes, &mut numbers);
-        Error::check(answer, numbers[1])?;
-        bytes.try_into().map(Self).map_err(|_| Error::WrongLength)
+        let wrong_length = || Error::WrongLength(Length::Patch(bytes.len()));
+        Error::check(ffi::test_patch(bytes), |_| wrong_length())?;
+        bytes.try_into().map(Self).map_err(|_| wrong_length())
     }
 }
 

@@ -1,8 +1,20 @@
 //! Document 01's examples at the edges, through the Rust face.
 
+use std::collections::BTreeMap;
+use std::io::{self, Write};
+
 use matrix1000::{
-    messages, reports, Bank, Bus, BusEdit, Edit, Error, Kind, Master, Message, Parameter, Patch,
+    messages, reports, to_vec, to_writer, Bank, Bus, BusEdit, Edit, Error, Kind, Length, Master,
+    Message, NotAllowed, Parameter, Patch,
 };
+
+const fn wrong_length(length: Length) -> Error {
+    Error::WrongLength(length)
+}
+
+const fn not_allowed(what: NotAllowed) -> Error {
+    Error::NotAllowed(what)
+}
 
 fn dump(number: u8, patch: Patch) -> Vec<u8> {
     Message::Patch { number, patch }.to_vec().unwrap()
@@ -23,9 +35,17 @@ fn a_name() {
     patch.set_name("BASS 1  ").unwrap();
     assert_eq!(patch.as_bytes()[..8], [2, 1, 19, 19, 32, 49, 32, 32]);
     assert_eq!(dump(0, patch)[273], 0x3B);
-    assert_eq!(patch.set_name("BASS 1"), Err(Error::WrongLength));
-    assert_eq!(patch.set_name("bass 1  "), Err(Error::NotAllowed));
-    assert_eq!(patch.set_name("B\u{c4}SS 1 "), Err(Error::NotAllowed));
+    let refused = |error| Err(error);
+    assert_eq!(
+        patch.set_name("BASS 1"),
+        refused(wrong_length(Length::Name(6)))
+    );
+    for (name, character) in [("BASs 1  ", 's'), ("B\u{c4}SS 1 ", '\u{c4}')] {
+        assert_eq!(
+            patch.set_name(name),
+            refused(not_allowed(NotAllowed::Character(character)))
+        );
+    }
     assert_eq!(patch.name(), "BASS 1  ");
 }
 
@@ -42,7 +62,9 @@ fn a_bus() {
     assert_eq!(patch.buses()[0], bus);
     assert_eq!(patch.buses()[1..], [Bus::default(); 9]);
     assert_eq!(patch.bus(10), None);
-    assert_eq!(patch.set_bus(10, bus), Err(Error::NotAllowed));
+    let bus_10 = not_allowed(NotAllowed::Bus(10));
+    assert_eq!(patch.set_bus(10, bus), Err(bus_10));
+    assert_eq!(BusEdit::new(10, bus), Err(bus_10));
 
     let half = Bus {
         destination: 0,
@@ -62,7 +84,7 @@ fn a_bus() {
     for amount in [-65, 64, 127, -128] {
         let outside = Bus { amount, ..bus };
         assert_eq!(BusEdit::new(0, outside), Err(Error::WrongAmount));
-        assert_eq!(BusEdit::new(10, outside), Err(Error::NotAllowed));
+        assert_eq!(BusEdit::new(10, outside), Err(bus_10));
         assert_eq!(
             patch.set_bus(0, outside),
             Err(Error::OutOfRange { place: 105 })
@@ -92,8 +114,13 @@ fn values_of_edits_are_extended() {
         Edit::from_bytes(0x00, 0x40),
         Err(Error::OutOfRange { place: 9 })
     );
-    assert_eq!(Edit::from_bytes(39, 0), Err(Error::NotAllowed));
-    assert_eq!(Edit::from_bytes(0, 0x80), Err(Error::NotAllowed));
+    let parameter_39 = not_allowed(NotAllowed::Parameter(39));
+    assert_eq!(Edit::from_bytes(39, 0), Err(parameter_39));
+    assert_eq!(Edit::try_from([39, 0x80]), Err(parameter_39));
+    let value_128 = not_allowed(NotAllowed::Value(128));
+    assert_eq!(Edit::from_bytes(0, 0x80), Err(value_128));
+    let amount_128 = not_allowed(NotAllowed::Amount(128));
+    assert_eq!(BusEdit::try_from([0, 1, 0x80, 1]), Err(amount_128));
 }
 
 #[test]
@@ -101,18 +128,28 @@ fn lengths_and_numbers() {
     let patch = Patch::default();
     let message = Message::Patch { number: 99, patch };
     let mut out = [0xA5; 276];
-    assert_eq!(message.write_to(&mut out[..274]), Err(Error::NoRoom));
+    let no_room = Error::NoRoom {
+        needed: 275,
+        given: 274,
+    };
+    assert_eq!(message.write_to_slice(&mut out[..274]), Err(no_room));
     assert_eq!(out, [0xA5; 276]);
-    assert_eq!(message.write_to(&mut out), Ok(275));
+    assert_eq!(message.write_to_slice(&mut out), Ok(275));
     assert_eq!((out[274], out[275]), (0xF7, 0xA5));
-    let refused = Message::Patch { number: 100, patch }.write_to(&mut out);
-    assert_eq!(refused, Err(Error::NotAllowed));
+    let refused = Message::Patch { number: 100, patch }.write_to_slice(&mut out);
+    assert_eq!(refused, Err(not_allowed(NotAllowed::PatchNumber(100))));
     assert_eq!(
         Patch::try_from([0; 134]),
         Err(Error::OutOfRange { place: 76 })
     );
-    assert_eq!(Patch::try_from(&[0; 133][..]), Err(Error::WrongLength));
-    assert_eq!(Master::try_from(&[0; 171][..]), Err(Error::WrongLength));
+    assert_eq!(
+        Patch::try_from(&[0; 133][..]),
+        Err(wrong_length(Length::Patch(133)))
+    );
+    assert_eq!(
+        Master::try_from(&[0; 171][..]),
+        Err(wrong_length(Length::Master(171)))
+    );
 }
 
 #[test]
@@ -126,16 +163,23 @@ fn every_kind_comes_back_from_its_bytes() {
     };
     let all = [
         Message::Patch { number: 42, patch },
-        Message::Master(Master::from(std::array::from_fn(|index| index as u8))),
+        Message::Master(Master::from(std::array::from_fn(|index| {
+            index.to_le_bytes()[0]
+        }))),
         Message::Edit(Edit::new(Parameter::DCO_2_DETUNE, -32).unwrap()),
         Message::BusEdit(BusEdit::new(9, bus).unwrap()),
         Message::EditBuffer(patch),
     ];
+    let mut written = Vec::new();
+    let length = to_writer(&mut written, all.iter()).unwrap();
+    assert_eq!(length, written.len());
+    assert_eq!(to_vec(all).unwrap(), written);
     let mut stream = Vec::new();
     for message in &all {
         let bytes = message.to_vec().unwrap();
         assert_eq!(bytes[3], message.kind().opcode());
-        assert_eq!(Message::read(&bytes), Ok(*message));
+        assert_eq!(bytes.len(), message.kind().length());
+        assert_eq!(Message::try_from(bytes.as_slice()), Ok(*message));
         stream.push(0xFE);
         stream.extend(bytes);
     }
@@ -164,25 +208,35 @@ fn banks() {
     named.set_name("NUMBER 2").unwrap();
     let patches = [Patch::default(), Patch::default(), named];
     let bank = Bank::new(patches).unwrap();
-    assert_eq!(bank.patches().collect::<Vec<_>>(), patches);
+    assert_eq!(bank.iter().collect::<Vec<_>>(), patches);
+    assert_eq!(bank.clone().into_iter().collect::<Vec<_>>(), patches);
+    assert_eq!(Bank::try_from(patches.to_vec()), Ok(bank.clone()));
     assert_eq!(
         (bank.len(), bank.get(2), bank.get(3)),
         (3, Some(named), None)
     );
-    assert_eq!(Bank::from_bytes(bank.as_bytes()), Ok(bank.clone()));
+    assert_eq!(Bank::try_from(bank.as_bytes()), Ok(bank.clone()));
 
     let found = messages(&bank.to_vec())
         .map(|found| found.message.unwrap())
         .collect::<Vec<_>>();
     assert_eq!(found, bank.messages().collect::<Vec<_>>());
-    assert_eq!(bank.write_to(&mut [0; 3 * 275 - 1]), Err(Error::NoRoom));
+    let no_room = Error::NoRoom {
+        needed: 825,
+        given: 824,
+    };
+    assert_eq!(bank.write_to_slice(&mut [0; 3 * 275 - 1]), Err(no_room));
+    let mut written = Vec::new();
+    assert_eq!(bank.write_to(&mut written).unwrap(), 825);
+    assert_eq!(written, bank.to_vec());
 
     assert!(Bank::default().is_empty());
     assert!(Bank::default().to_vec().is_empty());
     let full = std::iter::repeat_n(named, 100);
     assert_eq!(Bank::new(full.clone()).unwrap().to_vec().len(), 27_500);
     let over = full.chain([named]);
-    assert_eq!(Bank::new(over), Err(Error::WrongLength));
+    let over_length = wrong_length(Length::Bank(101 * 134));
+    assert_eq!(Bank::new(over), Err(over_length));
 
     let mut bytes = bank.as_bytes().to_vec();
     bytes[134 + 104] = 1;
@@ -193,8 +247,64 @@ fn banks() {
     );
     assert_eq!(
         refused.to_string(),
-        "patch 1 of the bank: modulation bus 0 is half used"
+        "patch 1 of the bank: modulation bus 0 is half used: \
+         source and destination are both zero or both not"
     );
     let refused = Bank::from_bytes(&bytes[1..]).unwrap_err();
-    assert_eq!((refused.patch, refused.error), (0, Error::WrongLength));
+    let length = wrong_length(Length::Bank(3 * 134 - 1));
+    assert_eq!((refused.patch, refused.error), (0, length));
+}
+
+#[test]
+fn numbered_patches_keep_their_numbers() {
+    let mut file = to_vec((0..5).map(|number| (number, Patch::default()))).unwrap();
+    file[2 * 275 + 100] = 0x10;
+    let mut patches = BTreeMap::new();
+    for found in messages(&file) {
+        match found.message {
+            Ok(Message::Patch { number, patch }) => patches.insert(number, patch),
+            refused => {
+                assert_eq!(refused, Err(Error::WideData { index: 95 }));
+                continue;
+            }
+        };
+    }
+    let numbers = |dumps: &[u8]| -> Vec<u8> { dumps.chunks(275).map(|dump| dump[4]).collect() };
+    assert_eq!(numbers(&to_vec(&patches).unwrap()), [0, 1, 3, 4]);
+    assert_eq!(to_vec(&patches), to_vec(patches.clone()));
+    let good = messages(&file).filter_map(|found| found.message.ok());
+    assert_eq!(numbers(&to_vec(good).unwrap()), [0, 1, 3, 4]);
+    // A bank numbers them anew.
+    let bank = Bank::new(patches.into_values()).unwrap();
+    assert_eq!(numbers(&bank.to_vec()), [0, 1, 2, 3]);
+}
+
+/// Takes this many bytes and then no more.
+struct Full(usize);
+
+impl Write for Full {
+    fn write(&mut self, bytes: &[u8]) -> io::Result<usize> {
+        let taken = bytes.len().min(self.0);
+        self.0 -= taken;
+        Ok(taken)
+    }
+
+    fn flush(&mut self) -> io::Result<()> {
+        Ok(())
+    }
+}
+
+#[test]
+fn what_is_not_written_whole_is_an_error() {
+    let patch = Patch::default();
+    assert_eq!(to_writer(Full(550), [(1, patch), (2, patch)]).unwrap(), 550);
+    let full = to_writer(Full(549), [(1, patch), (2, patch)]).unwrap_err();
+    assert_eq!(full.kind(), io::ErrorKind::WriteZero);
+    assert!(Bank::new([patch]).unwrap().write_to(Full(274)).is_err());
+    let refused = to_writer(Full(9), [(100, patch)]).unwrap_err();
+    assert_eq!(refused.kind(), io::ErrorKind::InvalidInput);
+    assert_eq!(
+        refused.to_string(),
+        "patch number 100 is not allowed: 0 to 99"
+    );
 }

@@ -1,8 +1,9 @@
 //! Every field by its parameter: what it takes, what it gives back, and that it is alone.
 
 use std::collections::BTreeSet;
+use std::fs;
 
-use matrix1000::{Edit, Error, Parameter, Patch};
+use matrix1000::{Edit, Error, NotAllowed, Parameter, Patch};
 
 #[test]
 fn parameters_and_places_match_one_to_one() {
@@ -15,7 +16,8 @@ fn parameters_and_places_match_one_to_one() {
     let numbers: BTreeSet<u8> = all.iter().map(|parameter| parameter.number()).collect();
     assert_eq!(numbers.len(), 96);
     for number in (0..=255).filter(|number| !numbers.contains(number)) {
-        assert_eq!(Parameter::try_from(number), Err(Error::NotAllowed));
+        let refused = Error::NotAllowed(NotAllowed::Parameter(number));
+        assert_eq!(Parameter::try_from(number), Err(refused));
     }
     for place in (0..8).chain(104..134).chain([255, 256, usize::MAX]) {
         assert_eq!(Parameter::at(place), None);
@@ -28,6 +30,33 @@ fn every_parameter_has_a_name_of_its_own() {
     assert_eq!(names.len(), 96);
     assert!(!names.contains(""));
     assert_eq!(format!("{:>4}", Parameter::MIX), " Mix");
+    for parameter in Parameter::all() {
+        assert_eq!(parameter.name().parse(), Ok(parameter));
+        assert_eq!(parameter.to_string().to_lowercase().parse(), Ok(parameter));
+        let debug = format!("{parameter:?}");
+        let (constant, number) = debug.split_once('(').unwrap();
+        assert_eq!(constant.parse(), Ok(parameter));
+        assert_eq!(number, format!("{})", parameter.number()));
+    }
+    assert!("".parse::<Parameter>().is_err());
+}
+
+#[test]
+fn the_header_for_c_names_the_same_parameters() {
+    let header = concat!(env!("CARGO_MANIFEST_DIR"), "/../c/matrix.h");
+    let header = fs::read_to_string(header).unwrap();
+    let (_, listed) = header.split_once("enum matrix_parameter {").unwrap();
+    let (listed, _) = listed.split_once("};").unwrap();
+    let listed: Vec<&str> = listed.trim().lines().collect();
+    assert_eq!(listed.len(), 96);
+    for (line, parameter) in listed.iter().zip(Parameter::all()) {
+        let mut words = line.split_whitespace();
+        let constant = words.next().unwrap().strip_prefix("MATRIX_").unwrap();
+        assert_eq!(words.next(), Some("="));
+        let number = words.next().unwrap().trim_end_matches(',');
+        assert_eq!(format!("{constant}({number})"), format!("{parameter:?}"));
+        assert!(line.ends_with(&format!("/* {parameter} */")), "{line}");
+    }
 }
 
 #[test]
@@ -66,23 +95,17 @@ fn a_field_takes_a_range_and_changes_nothing_else() {
                 }
             }
         }
-        let (least, greatest) = (taken[0], taken[taken.len() - 1]);
-        assert_eq!(taken, (least..=greatest).collect::<Vec<_>>(), "{parameter}");
+        assert_eq!(taken, parameter.range().collect::<Vec<_>>(), "{parameter}");
     }
 }
 
 #[test]
 fn the_ranges_that_the_papers_correct() {
-    let range = |parameter| {
-        let taken = (-300..300).filter(|&value| Patch::default().set(parameter, value).is_ok());
-        let taken: Vec<i16> = taken.collect();
-        (taken[0], taken[taken.len() - 1])
-    };
-    assert_eq!(range(Parameter::DCO_2_DETUNE), (-32, 31));
-    assert_eq!(range(Parameter::VCF_FREQUENCY), (0, 127));
-    assert_eq!(range(Parameter::LFO_1_WAVESHAPE), (0, 6));
-    assert_eq!(range(Parameter::LFO_2_RETRIGGER_POINT), (0, 31));
-    assert_eq!(range(Parameter::LFO_1_SAMPLED_SOURCE), (0, 20));
-    assert_eq!(range(Parameter::TRACKING_SOURCE), (1, 20));
-    assert_eq!(range(Parameter::VCA_2_BY_ENV_2), (-64, 63));
+    assert_eq!(Parameter::DCO_2_DETUNE.range(), -32..=31);
+    assert_eq!(Parameter::VCF_FREQUENCY.range(), 0..=127);
+    assert_eq!(Parameter::LFO_1_WAVESHAPE.range(), 0..=6);
+    assert_eq!(Parameter::LFO_2_RETRIGGER_POINT.range(), 0..=31);
+    assert_eq!(Parameter::LFO_1_SAMPLED_SOURCE.range(), 0..=20);
+    assert_eq!(Parameter::TRACKING_SOURCE.range(), 1..=20);
+    assert_eq!(Parameter::VCA_2_BY_ENV_2.range(), -64..=63);
 }

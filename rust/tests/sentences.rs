@@ -1,0 +1,160 @@
+//! What errors say: what was found, and what is expected.
+
+use std::fmt::Display;
+
+use matrix1000::{
+    messages, reports, Bank, Bus, BusEdit, Edit, Error, Kind, Length, Master, Message, NotAllowed,
+    Parameter, Patch,
+};
+
+fn says<T>(result: Result<T, impl Display>, sentence: &str) {
+    match result {
+        Ok(_) => panic!("not refused: {sentence}"),
+        Err(error) => assert_eq!(error.to_string(), sentence),
+    }
+}
+
+#[test]
+fn of_what_is_handed_in() {
+    let mut patch = Patch::default();
+    says(
+        patch.set_name("BASS"),
+        "a name has 8 bytes, filled up with spaces, not 4",
+    );
+    says(
+        patch.set_name("BASS a  "),
+        "'a' is not allowed in a name: space to underscore, so no small letters",
+    );
+    says(
+        Message::Patch { number: 100, patch }.to_vec(),
+        "patch number 100 is not allowed: 0 to 99",
+    );
+    says(
+        patch.set_bus(10, Bus::default()),
+        "bus 10 is not allowed: 0 to 9",
+    );
+    says(
+        Parameter::try_from(99),
+        "parameter 99 is not one of the 96 of a patch",
+    );
+    says(
+        Edit::from_bytes(0, 200),
+        "value byte 200 is not allowed: 0 to 127",
+    );
+    says(
+        BusEdit::from_bytes([0, 0, 200, 0]),
+        "amount byte 200 is not allowed: 0 to 127",
+    );
+    says(
+        Patch::try_from(&[0; 133][..]),
+        "a patch has 134 bytes, not 133",
+    );
+    says(Master::try_from(&[][..]), "a master has 172 bytes, not 0");
+    says(
+        Bank::try_from(&[0; 1][..]),
+        "a bank has 134 bytes for each of at most 100 patches, not 1 in all",
+    );
+    says(
+        Message::EditBuffer(patch).write_to_slice(&mut [0; 9]),
+        "the output has 9 bytes, and 275 are needed",
+    );
+    says(
+        patch.set(Parameter::DCO_2_DETUNE, 32),
+        "DCO 2 Detune, byte 19 of the patch, is out of range: -32 to 31",
+    );
+}
+
+#[test]
+fn of_every_byte_of_a_patch() {
+    let refused = |place| {
+        let mut bytes = Patch::default().to_bytes();
+        bytes[place] = 0x80;
+        Patch::try_from(bytes)
+    };
+    says(
+        refused(7),
+        "character 7 of the name, byte 7 of the patch, is out of range: 0 to 63",
+    );
+    says(
+        refused(26),
+        "VCF Initial Frequency, byte 26 of the patch, is out of range: 0 to 127",
+    );
+    says(
+        refused(104),
+        "the source of bus 0, byte 104 of the patch, is out of range: 0 to 20",
+    );
+    says(
+        refused(132),
+        "the amount of bus 9, byte 132 of the patch, is out of range: -64 to 63",
+    );
+    for place in 0..Patch::LENGTH {
+        let error = refused(place).unwrap_err();
+        assert_eq!(error, Error::OutOfRange { place });
+        assert!(error.to_string().contains(" is out of range: "));
+    }
+    let outside = Error::OutOfRange { place: 134 };
+    assert_eq!(outside.to_string(), "byte 134 of the patch is out of range");
+}
+
+/// A message with this behind F0H 10H 06H.
+fn message(behind: &[u8]) -> Vec<u8> {
+    [&[0xF0, 0x10, 0xFE, 0x06], behind, &[0xF7]].concat()
+}
+
+#[test]
+fn of_messages() {
+    let zeros = |opcode, behind, length: usize| {
+        let mut bytes = vec![0; length - 4];
+        (bytes[0], bytes[1]) = (opcode, behind);
+        message(&bytes)
+    };
+    let refusals = [
+        (
+            zeros(0x01, 100, 275),
+            Error::NotAllowed(NotAllowed::PatchNumber(100)),
+            "patch number 100 is not allowed: 0 to 99",
+        ),
+        (
+            zeros(0x03, 2, 351),
+            Error::NotAllowed(NotAllowed::Version(2)),
+            "version 2 of a master is not allowed: 3",
+        ),
+        (
+            zeros(0x0D, 1, 275),
+            Error::NotAllowed(NotAllowed::Zero(1)),
+            "1 behind the opcode of a patch to edit buffer is not allowed: 0",
+        ),
+        (
+            message(&[0x06, 39, 0]),
+            Error::NotAllowed(NotAllowed::Parameter(39)),
+            "parameter 39 is not one of the 96 of a patch",
+        ),
+        (
+            message(&[0x0B, 10, 0, 0, 0]),
+            Error::NotAllowed(NotAllowed::Bus(10)),
+            "bus 10 is not allowed: 0 to 9",
+        ),
+        (
+            zeros(0x01, 0, 274),
+            Error::WrongLength(Length::Message {
+                kind: Kind::Patch,
+                found: 274,
+            }),
+            "a single patch message has 275 bytes, not 274",
+        ),
+        (
+            message(&[0x06]),
+            Error::WrongLength(Length::Message {
+                kind: Kind::Edit,
+                found: 5,
+            }),
+            "a remote edit message has 7 bytes, not 5",
+        ),
+    ];
+    for (input, error, sentence) in refusals {
+        assert_eq!(Message::read(&input), Err(error));
+        assert_eq!(reports(&input).next().unwrap().kind, Err(error));
+        assert_eq!(messages(&input).count(), 1);
+        assert_eq!(error.to_string(), sentence);
+    }
+}
