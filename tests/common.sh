@@ -58,5 +58,5 @@ same() { # EXPECTED PRINTED OF-WHAT
 # What a fresh clone has: all but what .gitignore names.
 fresh_copy() { # FOLDER
     mkdir -p "$1"
-    tar -c --exclude=./target --exclude=./build --exclude=./.git . | tar -x -C "$1"
+    tar -c --exclude=target --exclude=build --exclude=.git . | tar -x -C "$1"
 }
