@@ -19,12 +19,13 @@ fail() {
 }
 
 # Proves and builds programs; what rt said is in $said. rt takes a program's stamp for the program, so one that is gone loses its stamp.
+# Two rt in one folder would read each other's results, so each waits for the other, as in ./listing.
 build_programs() { # CRATE...
     local crate
     for crate; do
         [ -x "target/bin/$crate" ] || rm -f "target/stamp/$crate"
     done
-    if ! said=$(rt check "$@" 2>&1); then
+    if ! said=$(flock crates.txt rt check "$@" 2>&1); then
         echo "$said" >&2
         fail "not proved: $*"
     fi
