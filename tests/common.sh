@@ -5,8 +5,8 @@ cd "$(dirname "${BASH_SOURCE[0]}")/.."
 export CARGO_TARGET_DIR="${CARGO_TARGET_DIR:-$PWD/build/cargo}"
 
 # The programs' crates.
-listing_program=listing
-table_program=table
+listing_program=listing_main
+table_program=table_main
 cursor_program=cursor_main
 
 # A folder for what a script makes; gone when it ends.
