@@ -5,7 +5,7 @@ use reading::recording::Reading;
 use reading::walking::Report;
 ghost use mathlib.Core.Path.{_≡_};
 ghost use Rattle.answers.specs.Effect.{Gives};
-ghost use Rattle.reading.specs.Told.{walked, reads};
+ghost use Rattle.reading.specs.code.Told.{walked, reads};
 
 // An input, and a place of it.
 pub struct Cursor<'a> {

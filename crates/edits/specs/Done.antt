@@ -6,7 +6,7 @@ use Prim.Native.Nat.{ℕ, _+_, _*_, _≤_, _<_}
 use lib.ListN.{getD, set}
 use Rattle.answers.specs.Table.{outcome}
 use Rattle.answers.specs.Effect.{tested}
-use Rattle.fields.specs.Fields.{placeOf}
+use Rattle.fields.specs.Fields.{size, placeOf}
 use Rattle.patch.specs.Patch.{patchRows}
 use Rattle.edits.specs.Edits.{extended, storedFor, withBus, applying, applyingBus}
 
@@ -15,7 +15,7 @@ use Rattle.edits.specs.Edits.{extended, storedFor, withBus, applying, ap
 pub record EditDone (n v : ℕ) (p : List ℕ) : Type 0 where
   pub place : ℕ
   pub found : placeOf n ≡ some place
-  pub inside : place < 134
+  pub inside : place < size
   pub answered : applying n v p .result ≡ outcome 0 0
   pub stored : applying n v p .lent ≡ set p place (storedFor n v)
   pub own : getD (applying n v p .lent) place 0 ≡ storedFor n v

@@ -2,7 +2,7 @@
 use mathlib.Core.Path.{_≡_, refl, sym, ap, _∙_}
 use mathlib.Core.Option.{Option, none, some}
 use Prim.Native.Nat.{ℕ}
-use Rattle.fields.specs.Columns.{foundPlace, foundParameter, orNone}
+use Rattle.fields.specs.code.Columns.{foundPlace, foundParameter, orNone}
 use Rattle.fields.specs.declared.FoundPlace.{FoundPlace}
 use Rattle.fields.specs.declared.FoundPlace.the-variants.{At, Nothing as no-place}
 use Rattle.fields.specs.declared.FoundParameter.{FoundParameter}

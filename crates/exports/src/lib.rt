@@ -16,12 +16,12 @@ ghost use Rattle.answers.specs.Effect.{Gives, tested};
 ghost use Rattle.edits.specs.Edits.{applying, applyingBus};
 ghost use Rattle.messages.specs.declared.kinds.Kind.the-variants.{Dump as ofDump, Short as ofShort};
 ghost use Rattle.messages.specs.Kinds.{singlePatch, masterParameters, editBuffer, remoteEdit, busEdit};
-ghost use Rattle.fields.specs.Columns.{orNone};
+ghost use Rattle.fields.specs.code.Columns.{orNone};
 ghost use Rattle.fields.specs.Fields.{placeOf, parameterOf};
 ghost use Rattle.names.specs.Names.{naming, showing};
 ghost use Rattle.patch.specs.Patch.{patchRows};
-ghost use Rattle.reading.specs.Rooms.{Makes};
-ghost use Rattle.reading.specs.Told.{walked, reads};
+ghost use Rattle.reading.specs.code.Rooms.{Makes};
+ghost use Rattle.reading.specs.code.Told.{walked, reads};
 ghost use Rattle.writing.specs.Writing.{writing, writingBank};
 
 // A byte that no place and no parameter is.

@@ -10,7 +10,7 @@ use lib.Dec.{leb, ltb}
 use lib.ListN.{getD}
 use borrow.Author.Tests.{ltb-true, ltb-false, leb-true, leb-false, lt-ltb}
 use Rattle.fields.specs.Fields.{leastAt, greatestAt, between, inRange}
-use Rattle.fields.specs.Columns.{widthAt, rangeAt}
+use Rattle.fields.specs.code.Columns.{widthAt, rangeAt}
 use Rattle.fields.proofs.Rules.{past, bounds-bytes}
 
 -- What f gives at the n numbers from k on.

@@ -4,7 +4,7 @@
 use crate::PLACES;
 use crate::rows::*;
 ghost use Prim.Native.Nat.{_*_};
-ghost use Rattle.fields.specs.Columns.{rangeAt, placeOrNone, Holds};
+ghost use Rattle.fields.specs.code.Columns.{rangeAt, placeOrNone, InWord};
 
 // The range of each byte in one number, least + 256 * width. The width is how far its values go above the least: greatest minus least,
 // modulo 256.
@@ -744,7 +744,7 @@ const PLACES_12: u64 = R43.0 as u64
 
 // The ranges of the four bytes from 4 * i on in one number; 0 past the table.
 pub(crate) fn four_ranges(i: usize) -> u64
-    ensures { λ r. ⌜ Holds 16 rangeAt 4 (4 * i) r ⌝ }
+    ensures { λ r. ⌜ InWord 16 rangeAt 4 (4 * i) r ⌝ }
 {
     match i {
         0 => RANGES_0,
@@ -787,7 +787,7 @@ pub(crate) fn four_ranges(i: usize) -> u64
 
 // The places of the eight parameters from 8 * i on in one number; 255 where a parameter has none.
 pub(crate) fn eight_places(i: usize) -> u64
-    ensures { λ r. ⌜ Holds 8 placeOrNone 8 (8 * i) r ⌝ }
+    ensures { λ r. ⌜ InWord 8 placeOrNone 8 (8 * i) r ⌝ }
 {
     match i {
         0 => PLACES_0,

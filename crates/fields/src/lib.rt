@@ -15,7 +15,7 @@ use crate::rows::R106;
 ghost use mathlib.Core.Path.{_≡_};
 ghost use lib.ListN.{getD};
 ghost use Rattle.fields.specs.Fields.{fields, leastAt, greatestAt, between, inRange, placeOf, parameterOf};
-ghost use Rattle.fields.specs.Columns.{foundPlace, foundParameter};
+ghost use Rattle.fields.specs.code.Columns.{foundPlace, foundParameter};
 
 // A row: a byte place, its parameter number, its least and its greatest value. Values are bytes as stored: a least value above the
 // greatest is that of a signed field, 0xC0 for -64, 0xE0 for -32.

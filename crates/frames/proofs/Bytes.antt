@@ -1,5 +1,5 @@
 -- Which bytes each kind has, and what follows for the bytes that end a message.
--- Each law goes by the tests of `kindOf` in their order.
+-- Each law goes by the tests of `byteKind` in their order.
 use mathlib.Core.Path.{_≡_, refl, ap}
 use mathlib.Core.Bool.{Bool, true, false, cond}
 use mathlib.Core.List.{List, [], _∷_}
@@ -8,10 +8,10 @@ use native.Mathlib.Omega.{arith}
 use lib.Dec.{eqb, ltb}
 use lib.ListN.{length, take, drop}
 use borrow.Author.Tests.{ne-eqb, lt-ltb, le-ltb, eqb-true, eqb-false, ltb-true, ltb-false}
-use Rattle.frames.specs.Bytes.{Kind, dataByte, exclusive, endOfExclusive, otherStatus, realTime, kindOf, ends, isRealTime, body}
+use Rattle.frames.specs.Bytes.{ByteKind, dataByte, exclusive, endOfExclusive, otherStatus, realTime, byteKind, ends, isRealTime, body}
 
 -- The bytes of a kind.
-abbrev pub Lies : Kind → ℕ → Type 0
+abbrev pub Lies : ByteKind → ℕ → Type 0
 Lies dataByte b = b < 0x80
 Lies exclusive b = b ≡ 0xF0
 Lies endOfExclusive b = b ≡ 0xF7
@@ -19,8 +19,8 @@ Lies otherStatus b = (0x80 ≤ b) × (b ≤ 0xF7) × (b ≡ 0xF0 → ⊥) × (b 
 Lies realTime b = 0xF7 < b
 
 -- A byte that lies among those of a kind is of that kind.
-pub kind-is : (k : Kind) (b : ℕ) → Lies k b → kindOf b ≡ k
-unfolding kindOf
+pub kind-is : (k : ByteKind) (b : ℕ) → Lies k b → byteKind b ≡ k
+unfolding byteKind
 kind-is dataByte b h = rw (lt-ltb b 0x80 h)
 kind-is exclusive b e = rw e
 kind-is endOfExclusive b e = rw e
@@ -28,8 +28,8 @@ kind-is otherStatus b h = rw (le-ltb b 0x80 (h .0), ne-eqb b 0xF0 (h .2), ne-eqb
 kind-is realTime b h = rw (le-ltb b 0x80 (omega arith), ne-eqb b 0xF0 (λ e. omega arith), ne-eqb b 0xF7 (λ e. omega arith), le-ltb b 0xF8 h)
 
 -- Each byte lies among those of its kind.
-pub lies : (b : ℕ) → Lies (kindOf b) b
-unfolding kindOf
+pub lies : (b : ℕ) → Lies (byteKind b) b
+unfolding byteKind
 lies b = go (ltb b 0x80) (eqb b 0xF0) (eqb b 0xF7) (ltb b 0xF8) refl refl refl refl
   where
     go : (t u v w : Bool) → ltb b 0x80 ≡ t → eqb b 0xF0 ≡ u → eqb b 0xF7 ≡ v → ltb b 0xF8 ≡ w
@@ -42,18 +42,18 @@ lies b = go (ltb b 0x80) (eqb b 0xF0) (eqb b 0xF7) (ltb b 0xF8) refl refl refl r
     go false false false false q₁ q₂ q₃ q₄ = ltb-false b 0xF8 q₄
 
 -- A byte of a known kind lies among those of that kind.
-pub lies-in : (k : Kind) (b : ℕ) → kindOf b ≡ k → Lies k b
+pub lies-in : (k : ByteKind) (b : ℕ) → byteKind b ≡ k → Lies k b
 lies-in k b e = rw e at (lies b)
 
 -- A byte below F8H is not real time.
-pub not-real-time : (y : ℕ) → y < 0xF8 → kindOf y ≡ realTime → ⊥
+pub not-real-time : (y : ℕ) → y < 0xF8 → byteKind y ≡ realTime → ⊥
 not-real-time y h e = let l = lies-in realTime y e in omega arith
 
 -- Nor is it dropped.
-pub stays : (b : ℕ) → b ≤ 0xF7 → isRealTime (kindOf b) ≡ false
-stays b h = go (kindOf b) (lies b)
+pub stays : (b : ℕ) → b ≤ 0xF7 → isRealTime (byteKind b) ≡ false
+stays b h = go (byteKind b) (lies b)
   where
-    go : (k : Kind) → Lies k b → isRealTime k ≡ false
+    go : (k : ByteKind) → Lies k b → isRealTime k ≡ false
     go dataByte l = refl
     go exclusive l = refl
     go endOfExclusive l = refl
@@ -61,10 +61,10 @@ stays b h = go (kindOf b) (lies b)
     go realTime l = absurd (omega arith)
 
 -- A byte in 80H..F7H ends a message.
-pub ends-there : (b : ℕ) → 0x80 ≤ b → b ≤ 0xF7 → ends (kindOf b) ≡ true
-ends-there b h h′ = go (kindOf b) (lies b)
+pub ends-there : (b : ℕ) → 0x80 ≤ b → b ≤ 0xF7 → ends (byteKind b) ≡ true
+ends-there b h h′ = go (byteKind b) (lies b)
   where
-    go : (k : Kind) → Lies k b → ends k ≡ true
+    go : (k : ByteKind) → Lies k b → ends k ≡ true
     go dataByte l = absurd (omega arith)
     go exclusive l = refl
     go endOfExclusive l = refl
@@ -75,13 +75,13 @@ ends-there b h h′ = go (kindOf b) (lies b)
 pub data Ending (x : ℕ) : Type 0 where
   closing : x ≡ 0xF7 → Ending x
   starting : x ≡ 0xF0 → Ending x
-  breaking : kindOf x ≡ otherStatus → Ending x
+  breaking : byteKind x ≡ otherStatus → Ending x
 
 -- A byte that ends a message is F7H, F0H or another status byte.
-pub ending : (x : ℕ) → ends (kindOf x) ≡ true → Ending x
-ending x e = go (kindOf x) refl e
+pub ending : (x : ℕ) → ends (byteKind x) ≡ true → Ending x
+ending x e = go (byteKind x) refl e
   where
-    go : (k : Kind) → kindOf x ≡ k → ends k ≡ true → Ending x
+    go : (k : ByteKind) → byteKind x ≡ k → ends k ≡ true → Ending x
     go dataByte q e = let z : _≡_ {A = ℕ} 0 1 = cc in absurd (omega arith)
     go exclusive q e = starting (lies-in exclusive x q)
     go endOfExclusive q e = closing (lies-in endOfExclusive x q)
@@ -89,23 +89,23 @@ ending x e = go (kindOf x) refl e
     go realTime q e = let z : _≡_ {A = ℕ} 0 1 = cc in absurd (omega arith)
 
 -- The body goes on over a byte that does not end the message.
-pub body-on : (b : ℕ) (s : List ℕ) → ends (kindOf b) ≡ false → body (b ∷ s) ≡ b ∷ body s
+pub body-on : (b : ℕ) (s : List ℕ) → ends (byteKind b) ≡ false → body (b ∷ s) ≡ b ∷ body s
 unfolding body
 body-on b s e = rw e
 
 -- The body stops before a byte that ends the message.
-pub body-stop : (b : ℕ) (s : List ℕ) → ends (kindOf b) ≡ true → body (b ∷ s) ≡ []
+pub body-stop : (b : ℕ) (s : List ℕ) → ends (byteKind b) ≡ true → body (b ∷ s) ≡ []
 unfolding body
 body-stop b s e = rw e
 
 -- The byte behind a body ends the message.
-pub behind-body : (t : List ℕ) (x : ℕ) (r : List ℕ) → drop (length (body t)) t ≡ x ∷ r → ends (kindOf x) ≡ true
+pub behind-body : (t : List ℕ) (x : ℕ) (r : List ℕ) → drop (length (body t)) t ≡ x ∷ r → ends (byteKind x) ≡ true
 unfolding body
 behind-body [] x r e = cc
-behind-body (b ∷ t) x r e = go (ends (kindOf b)) refl e (behind-body t x r)
+behind-body (b ∷ t) x r e = go (ends (byteKind b)) refl e (behind-body t x r)
   where
-    go : (v : Bool) → ends (kindOf b) ≡ v → drop (length (cond v [] (b ∷ body t))) (b ∷ t) ≡ x ∷ r
-        → (drop (length (body t)) t ≡ x ∷ r → ends (kindOf x) ≡ true) → ends (kindOf x) ≡ true
+    go : (v : Bool) → ends (byteKind b) ≡ v → drop (length (cond v [] (b ∷ body t))) (b ∷ t) ≡ x ∷ r
+        → (drop (length (body t)) t ≡ x ∷ r → ends (byteKind x) ≡ true) → ends (byteKind x) ≡ true
     go true q e i = cc
     go false q e i = i e
 
@@ -113,7 +113,7 @@ behind-body (b ∷ t) x r e = go (ends (kindOf b)) refl e (behind-body t x r)
 pub body-within : (t : List ℕ) → length (body t) ≤ length t
 unfolding body
 body-within [] = omega arith
-body-within (b ∷ t) = go (ends (kindOf b)) (body-within t)
+body-within (b ∷ t) = go (ends (byteKind b)) (body-within t)
   where
     go : (v : Bool) → length (body t) ≤ length t → length (cond v [] (b ∷ body t)) ≤ suc (length t)
     go true i = omega arith
@@ -123,7 +123,7 @@ body-within (b ∷ t) = go (ends (kindOf b)) (body-within t)
 pub body-take : (t : List ℕ) → take (length (body t)) t ≡ body t
 unfolding body
 body-take [] = refl
-body-take (b ∷ t) = go (ends (kindOf b)) (body-take t)
+body-take (b ∷ t) = go (ends (byteKind b)) (body-take t)
   where
     go : (v : Bool) → take (length (body t)) t ≡ body t → take (length (cond v [] (b ∷ body t))) (b ∷ t) ≡ cond v [] (b ∷ body t)
     go true i = refl

@@ -14,7 +14,7 @@ use borrow.Author.Tests.{eqb-true, eqb-false}
 use Rattle.answers.specs.Lists.{All}
 use Rattle.answers.specs.Table.{Verdict, answerOf}
 use Rattle.answers.proofs.Lists.{all-weaken}
-use Rattle.frames.specs.Bytes.{Kind, dataByte, exclusive, endOfExclusive, otherStatus, realTime, kindOf, ends, isRealTime, body, withoutRealTime, framed}
+use Rattle.frames.specs.Bytes.{ByteKind, dataByte, exclusive, endOfExclusive, otherStatus, realTime, byteKind, ends, isRealTime, body, withoutRealTime, framed}
 use Rattle.frames.specs.Stream.{Report, report, messageAt, firstFrom, walk}
 use Rattle.frames.specs.Scan.{outside, scan}
 use Rattle.frames.proofs.Bytes.{lies-in, kind-is, body-on, body-stop}
@@ -41,9 +41,9 @@ without-data (b ∷ c) a = rw (a .0, without-data c (a .1))
 without-append : (u v : List ℕ) → withoutRealTime (u ++ v) ≡ withoutRealTime u ++ withoutRealTime v
 unfolding withoutRealTime
 without-append [] v = refl
-without-append (b ∷ u) v = go (isRealTime (kindOf b)) refl (without-append u v)
+without-append (b ∷ u) v = go (isRealTime (byteKind b)) refl (without-append u v)
   where
-    go : (t : Bool) → isRealTime (kindOf b) ≡ t → withoutRealTime (u ++ v) ≡ withoutRealTime u ++ withoutRealTime v
+    go : (t : Bool) → isRealTime (byteKind b) ≡ t → withoutRealTime (u ++ v) ≡ withoutRealTime u ++ withoutRealTime v
         → withoutRealTime (b ∷ (u ++ v)) ≡ withoutRealTime (b ∷ u) ++ withoutRealTime v
     go true q i = rw q i
     go false q i = rw (q, i)
@@ -57,9 +57,9 @@ without-framed b = rw (kind-is exclusive 0xF0 refl, without-append b (0xF7 ∷ [
 take-body : (t : List ℕ) → take (length (body t)) t ≡ body t
 unfolding body
 take-body [] = refl
-take-body (b ∷ t) = go (ends (kindOf b)) refl (take-body t)
+take-body (b ∷ t) = go (ends (byteKind b)) refl (take-body t)
   where
-    go : (v : Bool) → ends (kindOf b) ≡ v → take (length (body t)) t ≡ body t → take (length (body (b ∷ t))) (b ∷ t) ≡ body (b ∷ t)
+    go : (v : Bool) → ends (byteKind b) ≡ v → take (length (body t)) t ≡ body t → take (length (body (b ∷ t))) (b ∷ t) ≡ body (b ∷ t)
     go true q i = rw q
     go false q i = rw (q, i)
 
@@ -67,9 +67,9 @@ take-body (b ∷ t) = go (ends (kindOf b)) refl (take-body t)
 pub content-data : (t : List ℕ) → All (λ b. b < 0x80) (withoutRealTime (body t))
 unfolding body withoutRealTime
 content-data [] = tt
-content-data (b ∷ t) = by-kind (kindOf b) refl (content-data t)
+content-data (b ∷ t) = by-kind (byteKind b) refl (content-data t)
   where
-    by-kind : (k : Kind) → kindOf b ≡ k → All (λ b. b < 0x80) (withoutRealTime (body t)) → All (λ b. b < 0x80) (withoutRealTime (body (b ∷ t)))
+    by-kind : (k : ByteKind) → byteKind b ≡ k → All (λ b. b < 0x80) (withoutRealTime (body t)) → All (λ b. b < 0x80) (withoutRealTime (body (b ∷ t)))
     by-kind dataByte q i = rw q (rw q (lies-in dataByte b q, i))
     by-kind exclusive q i = rw q tt
     by-kind endOfExclusive q i = rw q tt

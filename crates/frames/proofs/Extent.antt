@@ -12,7 +12,7 @@ use lib.ListN.{length, getD, drop, drop-of-length-le}
 use lib.Seq.{drop-cons}
 use borrow.Author.Tests.{eq-eqb, ne-eqb}
 use Rattle.frames.specs.Bytes.{dataByte, realTime, ends, body, realTimeIn}
-use Rattle.frames.specs.Extent.{ahead, startFrom}
+use Rattle.frames.specs.code.Extent.{ahead, startAt}
 use Rattle.frames.proofs.Bytes.{kind-is, stays, ends-there, body-on, body-stop}
 
 -- The byte at an index and what follows it.
@@ -72,6 +72,6 @@ ahead-within (b ∷ s) = by-test (eqb b 0xF0) (ahead-within s)
     by-test false h = omega arith
 
 -- Past the end no byte stands.
-pub start-past : (s : List ℕ) (p : ℕ) → length s ≤ p → startFrom s p ≡ p
-unfolding startFrom
+pub start-past : (s : List ℕ) (p : ℕ) → length s ≤ p → startAt s p ≡ p
+unfolding startAt
 start-past s p h = rw (ahead-end s p h, add-zero p)

@@ -13,7 +13,7 @@ use lib.Seq.{drop-drop}
 use borrow.Author.Tests.{eq-eqb, ne-eqb, eqb-true}
 use Rattle.answers.specs.Table.{Verdict, refused, outcome}
 use Rattle.frames.specs.Bytes.{body, withoutRealTime, framed}
-use Rattle.frames.specs.Extent.{ahead, startFrom, endingOf}
+use Rattle.frames.specs.code.Extent.{ahead, startAt, endingOf}
 use Rattle.frames.specs.Stream.{report, messageAt, firstFrom, walk}
 use Rattle.frames.proofs.Scan.{further}
 use Rattle.frames.proofs.Walk.{cut-message, closed-message, interrupted-message}
@@ -42,12 +42,12 @@ module _ (judge : List ℕ → Verdict) where
       by-test false k i = rw (further p (ahead t)) (i (omega arith))
 
   module _ (s : List ℕ) (p : ℕ) where
-    pub walk-none : length s ≤ startFrom s p → walk judge s p ≡ none
-    unfolding walk startFrom
+    pub walk-none : length s ≤ startAt s p → walk judge s p ≡ none
+    unfolding walk startAt
     walk-none h = first-none (drop p s) p (omega (arith, length-drop p s))
 
-    pub walk-found : startFrom s p < length s → walk judge s p ≡ some (messageAt judge (startFrom s p) (drop (suc (startFrom s p)) s))
-    unfolding walk startFrom
+    pub walk-found : startAt s p < length s → walk judge s p ≡ some (messageAt judge (startAt s p) (drop (suc (startAt s p)) s))
+    unfolding walk startAt
     walk-found h =
         let e : p + suc (ahead (drop p s)) ≡ suc (p + ahead (drop p s)) = omega arith in
         first-found (drop p s) p (omega (arith, length-drop p s)) ∙ rw (drop-drop (suc (ahead (drop p s))) p s, e)

@@ -11,7 +11,7 @@ use lib.ListN.{length, drop, getD, drop-of-length-le}
 use borrow.Author.Tests.{eqb-true, eqb-false}
 use Rattle.answers.specs.Table.{Verdict}
 use Rattle.frames.specs.Bytes.{body}
-use Rattle.frames.specs.Extent.{ahead}
+use Rattle.frames.specs.code.Extent.{ahead}
 use Rattle.frames.specs.Stream.{messageAt}
 use Rattle.frames.specs.Scan.{outside, inside, scan}
 use Rattle.frames.proofs.Extent.{split}

@@ -9,14 +9,14 @@ use native.Mathlib.Numerals.{add-one}
 use lib.ListN.{length, getD, take, drop, set, length-append, drop-of-length-le}
 use lib.Seq.{take-suc, take-all, take-append-le, take-append-seam}
 use Rattle.answers.proofs.Lists.{put-next}
-use Rattle.frames.specs.Bytes.{realTime, kindOf, isRealTime, withoutRealTime, realTimeIn}
-use Rattle.frames.specs.Extent.{Kept}
+use Rattle.frames.specs.Bytes.{realTime, byteKind, isRealTime, withoutRealTime, realTimeIn}
+use Rattle.frames.specs.code.Extent.{Kept}
 use Rattle.frames.proofs.Bytes.{kind-is, stays}
 
 without-append : (a b : List ℕ) → withoutRealTime (a ++ b) ≡ withoutRealTime a ++ withoutRealTime b
 unfolding withoutRealTime
 without-append [] b = refl
-without-append (x ∷ a) b = rw (without-append a b) (by-test (isRealTime (kindOf x)))
+without-append (x ∷ a) b = rw (without-append a b) (by-test (isRealTime (byteKind x)))
   where
     by-test : (t : Bool) → cond t (withoutRealTime a ++ withoutRealTime b) (x ∷ (withoutRealTime a ++ withoutRealTime b)) ≡ cond t (withoutRealTime a) (x ∷ withoutRealTime a) ++ withoutRealTime b
     by-test true = refl
@@ -36,7 +36,7 @@ module _ (s : List ℕ) (i : ℕ) (h : i < length s) where
 pub without-none : (s : List ℕ) → realTimeIn s ≡ 0 → withoutRealTime s ≡ s
 unfolding realTimeIn withoutRealTime
 without-none [] e = refl
-without-none (b ∷ s) e = by-test (isRealTime (kindOf b)) e (without-none s)
+without-none (b ∷ s) e = by-test (isRealTime (byteKind b)) e (without-none s)
   where
     by-test : (t : Bool) → cond t (suc (realTimeIn s)) (realTimeIn s) ≡ 0 → (realTimeIn s ≡ 0 → withoutRealTime s ≡ s)
         → cond t (withoutRealTime s) (b ∷ withoutRealTime s) ≡ b ∷ s

@@ -8,7 +8,7 @@ use lib.ListN.{length, length-append}
 use Rattle.answers.specs.Lists.{All}
 use Rattle.answers.specs.Table.{Verdict, refused, outcome}
 use Rattle.answers.proofs.Lists.{all-append}
-use Rattle.frames.specs.Bytes.{Kind, dataByte, exclusive, endOfExclusive, otherStatus, realTime, kindOf, framed}
+use Rattle.frames.specs.Bytes.{ByteKind, dataByte, exclusive, endOfExclusive, otherStatus, realTime, byteKind, framed}
 use Rattle.frames.specs.Stream.{Report, report}
 use Rattle.frames.specs.Scan.{outside, inside, scan}
 use Rattle.frames.proofs.Bytes.{kind-is}
@@ -43,7 +43,7 @@ module _ (judge : List ℕ → Verdict) where
 
     -- One byte y of any kind between data bytes u and v.
     module _ (f : ℕ) (u : List ℕ) (y : ℕ) (v z : List ℕ) (au : All DataByte u) (av : All DataByte v) (broken : P (refused (outcome 3 0)))
-        (with-byte : kindOf y ≡ dataByte → P (judge (framed (u ++ y ∷ v)))) (without : kindOf y ≡ realTime → P (judge (framed (u ++ v))))
+        (with-byte : byteKind y ≡ dataByte → P (judge (framed (u ++ y ∷ v)))) (without : byteKind y ≡ realTime → P (judge (framed (u ++ v))))
         (front : P (judge (framed u))) (back : P (judge (framed v))) where
       cut : scan judge (suc f) (inside f []) ((u ++ y ∷ v) ++ 0xF7 ∷ z) ≡ scan judge (suc f + length u) (inside f u) (y ∷ (v ++ 0xF7 ∷ z))
       cut = rw (append-assoc u (y ∷ v) (0xF7 ∷ z)) (scan-data judge u au (suc f) f [] (y ∷ (v ++ 0xF7 ∷ z)))
@@ -51,7 +51,7 @@ module _ (judge : List ℕ → Verdict) where
       last : suc f + length (u ++ y ∷ v) ≡ suc (suc f + length u) + length v
       last = omega (arith, length-append u (y ∷ v))
 
-      by-kind : (k : Kind) → kindOf y ≡ k → Only f (u ++ y ∷ v) z
+      by-kind : (k : ByteKind) → byteKind y ≡ k → Only f (u ++ y ∷ v) z
       by-kind dataByte e = closed f (u ++ y ∷ v) z (all-append DataByte u (y ∷ v) au (e, av)) (with-byte e)
       by-kind exclusive e = record {
         found = report f (suc f + length u) (refused (outcome 3 0)) ∷ report (suc f + length u) (suc (suc f + length (u ++ y ∷ v))) (judge (framed v)) ∷ [];
@@ -76,4 +76,4 @@ module _ (judge : List ℕ → Verdict) where
 
       -- Such a message gives only reports of which P holds, and leaves the scan outside.
       pub one-byte : Only f (u ++ y ∷ v) z
-      one-byte = by-kind (kindOf y) refl
+      one-byte = by-kind (byteKind y) refl

@@ -12,7 +12,7 @@ use lib.Seq.{append-snoc}
 use borrow.Author.Tests.{eq-eqb, ne-eqb}
 use Rattle.answers.specs.Lists.{All}
 use Rattle.answers.specs.Table.{Verdict}
-use Rattle.frames.specs.Bytes.{Kind, dataByte, exclusive, endOfExclusive, otherStatus, realTime, kindOf}
+use Rattle.frames.specs.Bytes.{ByteKind, dataByte, exclusive, endOfExclusive, otherStatus, realTime, byteKind}
 use Rattle.frames.specs.Stream.{Report, report}
 use Rattle.frames.specs.Scan.{State, outside, inside, next, emit, scan}
 use Rattle.frames.proofs.Bytes.{Lies, lies, kind-is}
@@ -24,17 +24,17 @@ further p n = omega arith
 -- The state behind the bytes s, the first of which stands at place p.
 abbrev pub after : ℕ → State → List ℕ → State
 after p st [] = st
-after p st (b ∷ s) = after (suc p) (next (kindOf b) b p st) s
+after p st (b ∷ s) = after (suc p) (next (byteKind b) b p st) s
 
 -- A byte of 00H..7FH.
 abbrev pub DataByte : ℕ → Type 0
-DataByte b = kindOf b ≡ dataByte
+DataByte b = byteKind b ≡ dataByte
 
 -- Outside a message a byte counts only by being F0H or not.
-pub next-outside : (b p : ℕ) → next (kindOf b) b p outside ≡ cond (eqb b 0xF0) (inside p []) outside
-next-outside b p = go (kindOf b) (lies b)
+pub next-outside : (b p : ℕ) → next (byteKind b) b p outside ≡ cond (eqb b 0xF0) (inside p []) outside
+next-outside b p = go (byteKind b) (lies b)
   where
-    go : (k : Kind) → Lies k b → next k b p outside ≡ cond (eqb b 0xF0) (inside p []) outside
+    go : (k : ByteKind) → Lies k b → next k b p outside ≡ cond (eqb b 0xF0) (inside p []) outside
     go dataByte h = rw (ne-eqb b 0xF0 (λ e. omega arith))
     go exclusive h = rw (eq-eqb b 0xF0 h)
     go endOfExclusive h = rw (ne-eqb b 0xF0 (λ e. omega arith))
@@ -54,7 +54,7 @@ abbrev pub moved : ℕ → State → State
 moved k outside = outside
 moved k (inside f c) = inside (k + f) c
 
-next-moved : (k : ℕ) (q : Kind) (b p : ℕ) (st : State) → moved k (next q b p st) ≡ next q b (k + p) (moved k st)
+next-moved : (k : ℕ) (q : ByteKind) (b p : ℕ) (st : State) → moved k (next q b p st) ≡ next q b (k + p) (moved k st)
 next-moved k dataByte b p outside = refl
 next-moved k exclusive b p outside = refl
 next-moved k endOfExclusive b p outside = refl
@@ -74,13 +74,13 @@ module _ (judge : List ℕ → Verdict) where
   -- The reports that the bytes s complete.
   abbrev pub emitted : ℕ → State → List ℕ → List Report
   emitted p st [] = []
-  emitted p st (b ∷ s) = emit judge (kindOf b) p st ++ emitted (suc p) (next (kindOf b) b p st) s
+  emitted p st (b ∷ s) = emit judge (byteKind b) p st ++ emitted (suc p) (next (byteKind b) b p st) s
 
   -- The scan splits at any place.
   pub scan-split : (xs : List ℕ) (p : ℕ) (st : State) (ys : List ℕ)
       → scan judge p st (xs ++ ys) ≡ emitted p st xs ++ scan judge (p + length xs) (after p st xs) ys
   scan-split [] p st ys = rw (add-zero p)
-  scan-split (x ∷ xs) p st ys = rw (further p (length xs), scan-split xs (suc p) (next (kindOf x) x p st) ys) (rw append-assoc)
+  scan-split (x ∷ xs) p st ys = rw (further p (length xs), scan-split xs (suc p) (next (byteKind x) x p st) ys) (rw append-assoc)
 
   -- The reports that the bytes xs complete where F0H comes next.
   abbrev pub ahead : ℕ → State → List ℕ → List Report
@@ -109,7 +109,7 @@ module _ (judge : List ℕ → Verdict) where
   skip-data [] a p s = rw (add-zero p)
   skip-data (b ∷ u) a p s = rw (a .0, further p (length u)) (skip-data u (a .1) (suc p) s)
 
-  emit-moved : (k : ℕ) (q : Kind) (p : ℕ) (st : State) → map (move k) (emit judge q p st) ≡ emit judge q (k + p) (moved k st)
+  emit-moved : (k : ℕ) (q : ByteKind) (p : ℕ) (st : State) → map (move k) (emit judge q p st) ≡ emit judge q (k + p) (moved k st)
   emit-moved k q p outside = refl
   emit-moved k dataByte p (inside f c) = refl
   emit-moved k exclusive p (inside f c) = refl
@@ -123,9 +123,9 @@ module _ (judge : List ℕ → Verdict) where
   scan-moved [] k p (inside f c) = refl
   scan-moved (b ∷ s) k p st =
       rw (
-        map-append k (emit judge (kindOf b) p st) (scan judge (suc p) (next (kindOf b) b p st) s),
-        emit-moved k (kindOf b) p st,
-        scan-moved s k (suc p) (next (kindOf b) b p st),
+        map-append k (emit judge (byteKind b) p st) (scan judge (suc p) (next (byteKind b) b p st) s),
+        emit-moved k (byteKind b) p st,
+        scan-moved s k (suc p) (next (byteKind b) b p st),
         add-suc k p,
-        next-moved k (kindOf b) b p st,
+        next-moved k (byteKind b) b p st,
       )

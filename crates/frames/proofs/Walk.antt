@@ -13,7 +13,7 @@ use lib.Seq.{append-snoc, drop-drop}
 use borrow.Author.Tests.{eq-eqb, ne-eqb}
 use Rattle.answers.specs.Lists.{All}
 use Rattle.answers.specs.Table.{Verdict, refused, outcome}
-use Rattle.frames.specs.Bytes.{Kind, dataByte, exclusive, endOfExclusive, otherStatus, realTime, kindOf, ends, body, withoutRealTime, framed}
+use Rattle.frames.specs.Bytes.{ByteKind, dataByte, exclusive, endOfExclusive, otherStatus, realTime, byteKind, ends, body, withoutRealTime, framed}
 use Rattle.frames.specs.Stream.{Report, report, messageAt, firstFrom, walk, reportsFrom, reports}
 use Rattle.frames.specs.Scan.{outside, inside, scan}
 use Rattle.frames.specs.Order.{InOrder, ReportsOf}
@@ -29,9 +29,9 @@ module _ (judge : List ℕ → Verdict) where
   pub scan-body : (t : List ℕ) (p f : ℕ) (c : List ℕ) → scan judge p (inside f c) t ≡ pastBody p f c t
   unfolding body withoutRealTime
   scan-body [] p f c = rw (add-zero p)
-  scan-body (b ∷ t) p f c = by-kind (kindOf b) refl (scan-body t (suc p) f (c ++ (b ∷ []))) (scan-body t (suc p) f c)
+  scan-body (b ∷ t) p f c = by-kind (byteKind b) refl (scan-body t (suc p) f (c ++ (b ∷ []))) (scan-body t (suc p) f c)
     where
-      by-kind : (k : Kind) → kindOf b ≡ k → scan judge (suc p) (inside f (c ++ (b ∷ []))) t ≡ pastBody (suc p) f (c ++ (b ∷ [])) t
+      by-kind : (k : ByteKind) → byteKind b ≡ k → scan judge (suc p) (inside f (c ++ (b ∷ []))) t ≡ pastBody (suc p) f (c ++ (b ∷ [])) t
           → scan judge (suc p) (inside f c) t ≡ pastBody (suc p) f c t → scan judge p (inside f c) (b ∷ t) ≡ pastBody p f c (b ∷ t)
       by-kind dataByte q i j = rw (q, i, further p (length (body t)), append-snoc c b (withoutRealTime (body t))) (rw q)
       by-kind exclusive q i j = rw (q, add-zero p, append-nil c) (rw q)
@@ -81,7 +81,7 @@ module _ (judge : List ℕ → Verdict) where
         → scan judge (suc f) (inside f []) t ≡ messageAt judge f t ∷ scan judge (suc stop) outside r
     scan-broken x r e n m = rw (interrupted-message x r e m, scan-body t (suc f) f [], e, other (ending x (behind-body t x r e)))
       where
-        other : Ending x → kindOf x ≡ otherStatus
+        other : Ending x → byteKind x ≡ otherStatus
         other (closing q) = absurd (m q)
         other (starting q) = absurd (n q)
         other (breaking q) = q

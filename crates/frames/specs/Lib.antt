@@ -2,5 +2,4 @@ pub mod Bytes
 pub mod Stream
 pub mod Scan
 pub mod Order
-pub mod Extent
-pub mod Blocks
+pub mod code

@@ -2,7 +2,7 @@
 use mathlib.Core.List.{List, [], _∷_, _++_}
 use Prim.Native.Nat.{ℕ, suc}
 use Rattle.answers.specs.Table.{Verdict, refused, outcome}
-use Rattle.frames.specs.Bytes.{Kind, dataByte, exclusive, endOfExclusive, otherStatus, realTime, kindOf, framed}
+use Rattle.frames.specs.Bytes.{ByteKind, dataByte, exclusive, endOfExclusive, otherStatus, realTime, byteKind, framed}
 use Rattle.frames.specs.Stream.{Report, report}
 
 -- Inside a message: where it started, and its bytes so far behind F0H, real time dropped.
@@ -11,7 +11,7 @@ pub data State : Type 0 where
   inside : (start : ℕ) (content : List ℕ) → State
 
 -- The state behind a byte b of kind k at place p.
-abbrev pub next : Kind → ℕ → ℕ → State → State
+abbrev pub next : ByteKind → ℕ → ℕ → State → State
 next dataByte b p outside = outside
 next exclusive b p outside = inside p []
 next endOfExclusive b p outside = outside
@@ -30,7 +30,7 @@ finish p (inside f c) = report f p (refused (outcome 2 0)) ∷ []
 
 module _ (judge : List ℕ → Verdict) where
   -- The report that a byte of kind k at place p completes.
-  abbrev pub emit : Kind → ℕ → State → List Report
+  abbrev pub emit : ByteKind → ℕ → State → List Report
   emit k p outside = []
   emit dataByte p (inside f c) = []
   emit exclusive p (inside f c) = report f p (refused (outcome 3 0)) ∷ []
@@ -41,4 +41,4 @@ module _ (judge : List ℕ → Verdict) where
   -- The reports of the bytes s, the first of which stands at place p, from a state.
   abbrev pub scan : ℕ → State → List ℕ → List Report
   scan p st [] = finish p st
-  scan p st (b ∷ s) = emit (kindOf b) p st ++ scan (suc p) (next (kindOf b) b p st) s
+  scan p st (b ∷ s) = emit (byteKind b) p st ++ scan (suc p) (next (byteKind b) b p st) s

@@ -9,8 +9,13 @@ ghost use lib.Dec.{eqb};
 ghost use Prim.Native.Nat.{_+_, _≤_};
 ghost use lib.ListN.{length};
 ghost use Rattle.frames.specs.Bytes.{withoutRealTime};
-ghost use Rattle.frames.specs.Extent.{ahead, startFrom, spanOf, Kept};
-ghost use Rattle.frames.specs.Blocks.{None, Ahead, Onward};
+ghost use Rattle.frames.specs.code.Extent.{ahead, startAt, spanOf, Kept};
+ghost use Rattle.frames.specs.code.Blocks.{None, Ahead, Onward};
+
+// System exclusive, and end of exclusive: real time lies above it.
+pub const START: u8 = 0xF0;
+
+pub const END: u8 = 0xF7;
 
 // What stands behind an F0H: how many bytes before the first in 80H..F7H, how many of them are real time,
 // and the answer that their end gives: DONE for F7H, INTERRUPTED or CUT.
@@ -29,7 +34,7 @@ fn block_starts(bytes: &[u8], at: usize) -> bool
     let mut found: u8 = 0;
     let mut j: usize = 0;
     while j < 16 {
-        if bytes[at + j] == 0xF0 {
+        if bytes[at + j] == START {
             found = 1;
             j += 1;
         } else {
@@ -59,7 +64,7 @@ pub fn find_start(rest: &[u8]) -> usize
 {
     let mut i: usize = skip_blocks(rest);
     while i < rest.len() {
-        if rest[i] == 0xF0 {
+        if rest[i] == START {
             return i;
         }
         i += 1;
@@ -69,7 +74,7 @@ pub fn find_start(rest: &[u8]) -> usize
 
 // Where the first F0H at a place or later stands; no place of the input where there is none.
 pub fn find_start_from(s: &[u8], place: usize) -> usize
-    ensures { λ r. ⌜ r ≡ startFrom (now (s .entry)) place ⌝ }
+    ensures { λ r. ⌜ r ≡ startAt (now (s .entry)) place ⌝ }
 {
     if s.len() <= place {
         return place;
@@ -81,7 +86,7 @@ pub fn find_start_from(s: &[u8], place: usize) -> usize
 fn ending(b: u8) -> u8
     ensures { λ r. ⌜ r ≡ cond (eqb b 0xF7) 0 3 ⌝ }
 {
-    if b == 0xF7 {
+    if b == END {
         return DONE;
     }
     INTERRUPTED
@@ -126,7 +131,7 @@ pub fn find_end(rest: &[u8]) -> Span
         let b = rest[i];
         if b < 0x80 {
             i += 1;
-        } else if 0xF7 < b {
+        } else if END < b {
             noise += 1;
             i += 1;
         } else {
@@ -152,7 +157,7 @@ pub fn drop_real_time(bytes: &[u8], out: &mut [u8]) -> usize
     let mut i: usize = 0;
     while i < bytes.len() {
         let b = bytes[i];
-        if 0xF7 < b {
+        if END < b {
             i += 1;
         } else if n < out.len() {
             out[n] = b;

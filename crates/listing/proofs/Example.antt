@@ -1,16 +1,16 @@
 -- It is computed.
 use mathlib.Core.Path.{refl}
 use Rattle.text.specs.Text.{ascii, digitsOf, row}
-use Rattle.frames.specs.Bytes.{body, withoutRealTime, kindOf}
+use Rattle.frames.specs.Bytes.{body, withoutRealTime, byteKind}
 use Rattle.frames.specs.Stream.{reports, walk, firstFrom, messageAt}
 use Rattle.fields.specs.Fields.{fields, placeOf, searchFrom, inRange, between}
 use Rattle.edits.specs.Edits.{editRows, storedFor, extended}
-use Rattle.messages.specs.Kinds.{kindOf as kindOfOpcode}
+use Rattle.messages.specs.Kinds.{kindOf}
 use Rattle.messages.specs.Judge.{judge}
 use Rattle.listing.specs.Listing.{header, lines, total, listingOf}
 use Rattle.listing.specs.Example.{Example}
 
 pub example : Example
-unfolding listingOf header lines total ascii digitsOf row reports walk firstFrom messageAt body withoutRealTime kindOf judge kindOfOpcode editRows placeOf
+unfolding listingOf header lines total ascii digitsOf row reports walk firstFrom messageAt body withoutRealTime byteKind judge kindOf editRows placeOf
     searchFrom fields storedFor extended inRange between
 example = refl

@@ -4,7 +4,7 @@ use mathlib.Core.List.{List, [], _∷_}
 use Prim.Native.Nat.{ℕ}
 use lib.ListN.{length, take, drop}
 use lib.Seq.{take-at}
-use Rattle.listing.specs.Pieces.{leftOf, Call, Calls, joined, PiecesJoined}
+use Rattle.listing.specs.code.Pieces.{leftOf, Call, Calls, joined, PiecesJoined}
 use Rattle.listing.specs.declared.Left.{Left}
 use Rattle.listing.specs.declared.Left.the-variants.{Whole}
 

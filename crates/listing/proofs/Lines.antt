@@ -9,10 +9,10 @@ use lib.Seq.{drop-drop}
 use Rattle.text.specs.Text.{ascii, row, followed}
 use Rattle.text.proofs.Rows.{followed-most, row-most}
 use Rattle.frames.specs.Stream.{Report}
-use Rattle.reading.specs.Rooms.{width, numbersOf, flat}
+use Rattle.reading.specs.code.Rooms.{width, numbersOf, flat}
 use Rattle.listing.specs.Listing.{lines, total}
-use Rattle.listing.specs.Pieces.{leftBehind, leastRoom}
-use Rattle.listing.specs.Steps.{rows}
+use Rattle.listing.specs.code.Pieces.{leftBehind, leastRoom}
+use Rattle.listing.specs.code.Steps.{rows}
 
 -- The rows of the numbers of reports are their lines.
 pub rows-flat : (rs : List Report) (more : List ℕ) → rows width (length rs) (flat rs ++ more) ≡ lines rs

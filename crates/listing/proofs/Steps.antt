@@ -13,12 +13,12 @@ use Rattle.frames.specs.Stream.{Report}
 use Rattle.frames.specs.Scan.{outside, scan}
 use Rattle.frames.proofs.Walk.{reports-scan}
 use Rattle.messages.specs.Judge.{judge}
-use Rattle.reading.specs.Rooms.{width, made, Makes}
+use Rattle.reading.specs.code.Rooms.{width, made, Makes}
 use Rattle.reading.specs.declared.listing.Listed.{Listed}
 use Rattle.reading.proofs.Resume.{resume, Goes, goes}
 use Rattle.listing.specs.Listing.{most, header, lines, total, tooLong, listingOf}
-use Rattle.listing.specs.Pieces.{reportsAt, leftBehind, leftOf, callsLeft, leastRoom, Gives}
-use Rattle.listing.specs.Steps.{Within, rows, Adds}
+use Rattle.listing.specs.code.Pieces.{reportsAt, leftBehind, leftOf, callsLeft, leastRoom, GivesPiece}
+use Rattle.listing.specs.code.Steps.{Within, rows, Adds}
 use Rattle.listing.specs.declared.Left.{Left}
 use Rattle.listing.specs.declared.Left.the-variants.{Whole, From, Nothing}
 use Rattle.listing.specs.declared.Piece.{Piece}
@@ -138,10 +138,10 @@ module _ {s : List ℕ} {left₀ : Left} {room₀ room : List ℕ} {end : ℕ} {
       }
 
   pub piece-given : (leastRoom ≤ length room₀ → callsLeft s left ≤ callsLeft s left₀ - 1)
-      → Gives s left₀ room₀ room (record { len = end; left = left }) × Counts end room
+      → GivesPiece s left₀ room₀ room (record { len = end; left = left }) × Counts end room
   piece-given fewer =
       let whole = puts-whole (f .put) room₀ 0 (omega (arith, f .within, f .long)) in
-      let given : Gives s left₀ room₀ room (record { len = end; left = left }) =
+      let given : GivesPiece s left₀ room₀ room (record { len = end; left = left }) =
       record {
         piece = f .put;
         text = f .text;

@@ -1,4 +1,3 @@
 pub mod Listing
-pub mod Pieces
-pub mod Steps
 pub mod Example
+pub mod code

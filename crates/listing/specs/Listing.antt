@@ -7,7 +7,7 @@ use lib.ListN.{length}
 use Rattle.text.specs.Text.{ascii, followed, row}
 use Rattle.frames.specs.Stream.{Report, reports}
 use Rattle.messages.specs.Judge.{judge}
-use Rattle.reading.specs.Rooms.{numbersOf}
+use Rattle.reading.specs.code.Rooms.{numbersOf}
 
 -- Programs take at most this many bytes.
 abbrev pub most : ℕ

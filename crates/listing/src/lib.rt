@@ -5,10 +5,10 @@ ghost use Prim.Native.Nat.{_*_, _≤_};
 ghost use lib.ListN.{length};
 ghost use Rattle.io.specs.Counts.{Counts};
 ghost use Rattle.text.specs.Text.{Puts};
-ghost use Rattle.reading.specs.Rooms.{width};
+ghost use Rattle.reading.specs.code.Rooms.{width};
 ghost use Rattle.listing.specs.Listing.{total, tooLong};
-ghost use Rattle.listing.specs.Pieces.{Gives};
-ghost use Rattle.listing.specs.Steps.{Within, rows, Adds};
+ghost use Rattle.listing.specs.code.Pieces.{GivesPiece};
+ghost use Rattle.listing.specs.code.Steps.{Within, rows, Adds};
 
 // Programs take at most this many bytes.
 pub const MOST: usize = 65536;
@@ -126,7 +126,7 @@ fn put_some(s: &[u8], left: Left, room: &mut [u8], at: usize) -> Piece
 // The next piece of the listing of `s`, at the room's start: as many lines as there is room for. In a room of LEAST_ROOM bytes or more each
 // call brings the listing further; a shorter one gets an empty piece.
 pub fn next_piece(s: &[u8], left: Left, room: &mut [u8]) -> Piece
-    ensures { λ r. ⌜ Gives (now (s .entry)) left (now (room .entry)) (now (room .exit)) r ⌝ }
+    ensures { λ r. ⌜ GivesPiece (now (s .entry)) left (now (room .entry)) (now (room .exit)) r ⌝ }
     ensures { λ r. ⌜ Counts (r .len) (now (room .exit)) ⌝ }
 {
     let mut end: usize = 0;

@@ -5,7 +5,7 @@ use libc::STDOUT_FILENO;
 use listing::Left;
 ghost use Prim.Native.Nat.{_≤_};
 ghost use lib.ListN.{length};
-ghost use Rattle.listing.specs.Pieces.{leastRoom};
+ghost use Rattle.listing.specs.code.Pieces.{leastRoom};
 
 // The listing of `s`, by way of a lent room.
 fn print(s: &[u8], room: &mut [u8])

@@ -14,7 +14,7 @@ use Rattle.nibbles.proofs.Laws.{packing-wide, packing-done}
 use Rattle.answers.proofs.Rows.{Refusals, tested-stopped, tested-passed-on}
 use Rattle.messages.specs.Kinds.{Packed as PackedBytes}
 use Rattle.messages.specs.Judge.{dataRows, packedRows}
-use Rattle.messages.specs.Judged.{Checked}
+use Rattle.messages.specs.code.Judged.{Checked}
 
 module _ (ns out after : List ℕ) (p : Outcome) (fits : length ns ≡ 2 * length out) (g : Gives (packing ns out) p after) where
   -- Either a byte is above 15, and the answer is 9 with its index, or the buffer holds the packed bytes and no more.

@@ -16,23 +16,23 @@ use Rattle.messages.specs.Judge.{byteAt, dataOf, dataRows, packedRows, o
 use Rattle.messages.specs.Layout.{behindFor, dumpGiven, givenRows}
 
 -- The numbers of a refused message: 4 to 12, and 14.
-abbrev pub Listed : ℕ → Type 0
-Listed n = (4 ≤ n) × (n ≤ 14) × (n ≡ 13 → ⊥)
+abbrev pub InTable : ℕ → Type 0
+InTable n = (4 ≤ n) × (n ≤ 14) × (n ≡ 13 → ⊥)
 
 -- The rows of a kind have listed numbers, whatever it tests.
-abbrev RowsListed : List Row → Type 0
-RowsListed rows = All (λ r. Listed (numberOf r)) rows
+abbrev RowsInTable : List Row → Type 0
+RowsInTable rows = All (λ r. InTable (numberOf r)) rows
 
-packed-numbers : (q : Packed) (p : List ℕ) → RowsListed (packedRows q p)
+packed-numbers : (q : Packed) (p : List ℕ) → RowsInTable (packedRows q p)
 packed-numbers aPatch p = omega arith
 packed-numbers (anyBytes count) p = tt
 
-operand-numbers : (o : Operands) (b : List ℕ) → RowsListed (operandRows o b)
+operand-numbers : (o : Operands) (b : List ℕ) → RowsInTable (operandRows o b)
 unfolding editRows busRows
 operand-numbers anEdit b = omega arith
 operand-numbers aBusEdit b = omega arith
 
-kind-numbers : (k : Kind) (m : List ℕ) → RowsListed (kindRows k m)
+kind-numbers : (k : Kind) (m : List ℕ) → RowsInTable (kindRows k m)
 unfolding dataRows
 kind-numbers (ofDump k) m =
     (omega arith, (omega arith, (omega arith, packed-numbers (k .packed) (pack (dataOf (sizeOf (k .packed)) m)))))
@@ -56,7 +56,7 @@ given-refusals (ofShort k) b p = ((λ z. omega arith), operand-refusals (k .oper
 given-refusals unknown b p = tt
 
 -- Every row of the table has a listed number.
-pub row-numbers : (m : List ℕ) → All (λ r. Listed (numberOf r)) (messageRows m)
+pub row-numbers : (m : List ℕ) → All (λ r. InTable (numberOf r)) (messageRows m)
 row-numbers m = (omega arith, (omega arith, (omega arith, (omega arith, kind-numbers (kindOf (byteAt m 3)) m))))
 
 -- A verdict that is done.
@@ -70,12 +70,12 @@ record-done (ofShort k) m = made _ _ _ refl
 record-done unknown m = made _ _ _ refl
 
 -- A refused message has a listed number.
-pub judge-number : (m : List ℕ) (r : Outcome) → judge m ≡ refused r → Listed (r .answer)
+pub judge-number : (m : List ℕ) (r : Outcome) → judge m ≡ refused r → InTable (r .answer)
 unfolding judge
 judge-number m r e = go (record-done (kindOf (byteAt m 3)) m)
   where
-    go : IsDone (recordOf (kindOf (byteAt m 3)) m) → Listed (r .answer)
-    go (made o b p q) = first-number Listed (messageRows m) o b p r (row-numbers m) (rw q at e)
+    go : IsDone (recordOf (kindOf (byteAt m 3)) m) → InTable (r .answer)
+    go (made o b p q) = first-number InTable (messageRows m) o b p r (row-numbers m) (rw q at e)
 
 -- So its number is neither 0 nor 13.
 pub refused-number : (m : List ℕ) (r : Outcome) → judge m ≡ refused r → (r .answer ≡ 0 → ⊥) × (r .answer ≡ 13 → ⊥)

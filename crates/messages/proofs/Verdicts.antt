@@ -14,7 +14,7 @@ use Rattle.answers.proofs.Effects.{passed}
 use Rattle.frames.specs.Bytes.{framed}
 use Rattle.messages.specs.Kinds.{Dump, Short, Kind, ofDump, ofShort, kindOf, opcodeOf, sizeOf, countOf, lengthOf, isUnknown, Sized}
 use Rattle.messages.specs.Judge.{byteAt, dumpRows, operandRows, numberIn, kindRows, recordOf, kindVerdict, judge}
-use Rattle.messages.specs.Judged.{judged, bytesIn, judgedAs, refusedBy, sentIn, sumIn}
+use Rattle.messages.specs.code.Judged.{judged, bytesIn, judgedAs, refusedBy, sentIn, sumIn}
 use Rattle.messages.proofs.DumpLaws.{dump-refusals}
 use Rattle.messages.proofs.Numbers.{operand-refusals}
 use Rattle.messages.proofs.Content.{framed-length, framed-byte, framed-data, framed-sum, framed-bytes}

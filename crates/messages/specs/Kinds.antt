@@ -4,6 +4,7 @@ use mathlib.Core.Bool.{Bool, true, false, cond}
 use mathlib.Core.List.{List, [], _∷_}
 use Prim.Native.Nat.{ℕ, _+_, _*_, _≤_}
 use lib.Dec.{eqb}
+use Rattle.fields.specs.Fields.{size}
 pub use Rattle.messages.specs.declared.kinds.Behind.{Behind}
 pub use Rattle.messages.specs.declared.kinds.Behind.the-variants.{NumberTo as numberTo, Always as always}
 pub use Rattle.messages.specs.declared.kinds.Packed.{Packed}
@@ -15,9 +16,13 @@ pub use Rattle.messages.specs.declared.kinds.Short.{Short}
 pub use Rattle.messages.specs.declared.kinds.Kind.{Kind}
 pub use Rattle.messages.specs.declared.kinds.Kind.the-variants.{Dump as ofDump, Short as ofShort, Unknown as unknown}
 
+-- The packed bytes of a master.
+abbrev pub master : ℕ
+master = 172
+
 -- How many packed bytes a dump has.
 abbrev pub sizeOf : Packed → ℕ
-sizeOf aPatch = 134
+sizeOf aPatch = size
 sizeOf (anyBytes count) = count
 
 -- How many bytes a short message has behind its opcode.
@@ -37,7 +42,7 @@ abbrev pub singlePatch : Dump
 singlePatch = dumpKind 0x01 (numberTo 99) aPatch
 
 abbrev pub masterParameters : Dump
-masterParameters = dumpKind 0x03 (always 3) (anyBytes 172)
+masterParameters = dumpKind 0x03 (always 3) (anyBytes master)
 
 abbrev pub remoteEdit : Short
 remoteEdit = shortKind 0x06 anEdit
@@ -86,8 +91,8 @@ packedSize (ofDump k) = sizeOf (k .packed)
 packedSize (ofShort k) = 0
 packedSize unknown = 0
 
--- A kind's length is what its parts add up to, and it fits the room that the code has for it: 172 packed bytes, four bytes with the answer.
+-- A kind's length is what its parts add up to, and it fits the room that the code has for it: as many packed bytes as a master has, four bytes with the answer.
 abbrev pub Sized : Kind → Type 0
-Sized (ofDump k) = (k .length ≡ 7 + 2 * sizeOf (k .packed)) × (sizeOf (k .packed) ≤ 172)
+Sized (ofDump k) = (k .length ≡ 7 + 2 * sizeOf (k .packed)) × (sizeOf (k .packed) ≤ master)
 Sized (ofShort k) = (k .length ≡ 5 + countOf (k .operands)) × (countOf (k .operands) ≤ 4)
 Sized unknown = Unit {0}

@@ -1,4 +1,4 @@
 pub mod Kinds
 pub mod Judge
-pub mod Judged
 pub mod Layout
+pub mod code

@@ -18,11 +18,15 @@ ghost use mathlib.Core.List.{_++_};
 ghost use Prim.Native.Nat.{_+_, _*_, _≤_};
 ghost use lib.ListN.{length, getD};
 ghost use Rattle.answers.specs.Effect.{tested};
+ghost use Rattle.fields.specs.Fields.{size};
 ghost use Rattle.frames.specs.Bytes.{framed};
 ghost use Rattle.nibbles.specs.Nibbles.{pack};
-ghost use Rattle.messages.specs.Kinds.{aPatch, ofDump, sizeOf, Sized};
+ghost use Rattle.messages.specs.Kinds.{aPatch, ofDump, sizeOf, master, Sized};
 ghost use Rattle.messages.specs.Judge.{kindVerdict, dataRows, packedRows, lentRows, misnumbered, numberIn};
-ghost use Rattle.messages.specs.Judged.{judged, Checked, sentIn, sumIn};
+ghost use Rattle.messages.specs.code.Judged.{judged, Checked, sentIn, sumIn};
+
+// Where the data bytes of a patch dump end in its content, and its sum stands.
+const PATCH_SENT: usize = 4 + 2 * PATCH;
 
 // The data bytes of a dump and the sum behind them: 9, 10. The packed bytes are left in `packed`, which fits them.
 // The callers below have seen the length.
@@ -57,7 +61,7 @@ pub fn test_packed(packed: Packed, bytes: &[u8]) -> Outcome
 
 // The data of a patch, and its fields: 9 to 12. The caller below has seen the length.
 fn check_patch(sent: &[u8], sum: u8) -> Outcome
-    requires { ⌜ length (now sent) ≡ 268 ⌝ }
+    requires { ⌜ length (now sent) ≡ 2 * size ⌝ }
     ensures { λ r. ⌜ r ≡ tested (dataRows (now (sent .entry)) sum ++ packedRows aPatch (pack (now (sent .entry)))) ⌝ }
 {
     let mut packed = [0u8; PATCH];
@@ -79,11 +83,11 @@ fn check_any(sent: &[u8], sum: u8, count: usize, room: &mut [u8]) -> Outcome
 // The data and the packed bytes of a dump: 9 to 12. The caller below has seen the length. A patch goes by numbers that the
 // compiler sees.
 fn check_packed(packed: Packed, content: &[u8]) -> Outcome
-    requires { ⌜ (length (now content) ≡ 5 + 2 * sizeOf packed) × (sizeOf packed ≤ 172) ⌝ }
+    requires { ⌜ (length (now content) ≡ 5 + 2 * sizeOf packed) × (sizeOf packed ≤ master) ⌝ }
     ensures { λ r. ⌜ r ≡ tested (dataRows (sentIn (sizeOf packed) (now (content .entry))) (sumIn (sizeOf packed) (now (content .entry))) ++ packedRows packed (pack (sentIn (sizeOf packed) (now (content .entry))))) ⌝ }
 {
     match packed {
-        Packed::Patch => check_patch(&content[4..272], content[272]),
+        Packed::Patch => check_patch(&content[4..PATCH_SENT], content[PATCH_SENT]),
         Packed::AnyBytes(count) => {
             let mut room = [0u8; MASTER];
             let end = 4 + 2 * count;

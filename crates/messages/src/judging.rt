@@ -14,7 +14,7 @@ ghost use Rattle.answers.specs.Table.{outcome};
 ghost use Rattle.frames.specs.Bytes.{framed};
 ghost use Rattle.messages.specs.Kinds.{kindOf};
 ghost use Rattle.messages.specs.Judge.{judge, kindVerdict};
-ghost use Rattle.messages.specs.Judged.{judged, judgedAs, refusedBy};
+ghost use Rattle.messages.specs.code.Judged.{judged, judgedAs, refusedBy};
 
 // An outcome, and the bytes that come with it: a patch number, or an edit's two or four; zero where there are none.
 pub struct Judged {

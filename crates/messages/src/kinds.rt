@@ -58,7 +58,7 @@ impl EditBuffer {
 pub const LONGEST: usize = MasterParameters::LENGTH;
 
 // The packed bytes of a patch and of a master.
-pub const PATCH: usize = 134;
+pub const PATCH: usize = patch::SIZE;
 
 pub const MASTER: usize = 172;
 

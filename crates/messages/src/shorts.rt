@@ -17,7 +17,7 @@ ghost use Rattle.answers.specs.Table.{four};
 ghost use Rattle.frames.specs.Bytes.{framed};
 ghost use Rattle.messages.specs.Kinds.{ofShort, Sized};
 ghost use Rattle.messages.specs.Judge.{kindVerdict, lentOperandRows};
-ghost use Rattle.messages.specs.Judged.{judged};
+ghost use Rattle.messages.specs.code.Judged.{judged};
 
 // The tests of a short message's bytes: 7 for another count of them, then those that applying an edit makes too.
 pub fn test_operands(operands: Operands, bytes: &[u8]) -> Outcome

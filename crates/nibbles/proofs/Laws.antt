@@ -16,7 +16,7 @@ use borrow.Author.Tests.{ltb-true, ltb-false, lt-ltb, le-ltb, eq-eqb, ne-eqb}
 use Rattle.answers.specs.Lists.{All}
 use Rattle.answers.specs.Table.{outcome}
 use Rattle.nibbles.specs.Nibbles.{nibbles, pack, total, sum, wideFrom, firstWide, packing, unpacking}
-use Rattle.nibbles.specs.Wide.{foundWide}
+use Rattle.nibbles.specs.code.Wide.{foundWide}
 use Rattle.nibbles.specs.declared.Wide.the-variants.{At, Nowhere}
 
 -- Nibbles and packing.

@@ -1,2 +1,2 @@
 pub mod Nibbles
-pub mod Wide
+pub mod code

@@ -12,7 +12,7 @@ ghost use Prim.Native.Nat.{_*_, _/_, _≤_};
 ghost use lib.ListN.{length, drop};
 ghost use Rattle.answers.specs.Effect.{Gives};
 ghost use Rattle.nibbles.specs.Nibbles.{nibbles, pack, sum, firstWide, packing, unpacking};
-ghost use Rattle.nibbles.specs.Wide.{foundWide};
+ghost use Rattle.nibbles.specs.code.Wide.{foundWide};
 
 // Where the first data byte above 15 stands.
 enum Wide {

@@ -11,7 +11,7 @@ use borrow.Author.Count.{below-more}
 use borrow.Author.Tests.{ltb-true, ltb-false, le-leb}
 use Rattle.fields.specs.Fields.{inRange}
 use Rattle.patch.specs.Patch.{outFrom, firstOut, halfUsed, halfFrom, firstHalf}
-use Rattle.patch.specs.Passes.{InRange}
+use Rattle.patch.specs.code.Passes.{InRange}
 use Rattle.fields.proofs.Widths.{leasts, widths, in-range-columns}
 use Rattle.patch.proofs.Steps.{byte-in, bytes-done, bus-whole, buses-done}
 

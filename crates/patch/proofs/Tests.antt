@@ -10,7 +10,7 @@ use Rattle.answers.specs.Table.{rowAt, Silent}
 use Rattle.answers.specs.Effect.{tested}
 use Rattle.answers.proofs.Rows.{Refusals, row-at-silent, row-equal}
 use Rattle.patch.specs.declared.Failed.the-variants.{At as failed-at, Nowhere}
-use Rattle.patch.specs.Passes.{foundAt}
+use Rattle.patch.specs.code.Passes.{foundAt}
 use Rattle.patch.specs.Patch.{firstOut, firstHalf, fieldRows, patchRows}
 
 -- A search that found a place, or a bus, found the definition's.

@@ -17,8 +17,9 @@ ghost use mathlib.Core.Bool.{true};
 ghost use mathlib.Core.Option.{none};
 ghost use lib.ListN.{length};
 ghost use Rattle.answers.specs.Effect.{tested};
+ghost use Rattle.fields.specs.Fields.{size};
 ghost use Rattle.patch.specs.Patch.{firstOut, firstHalf, halfUsed, fieldRows, patchRows};
-ghost use Rattle.patch.specs.Passes.{InRange, foundAt};
+ghost use Rattle.patch.specs.code.Passes.{InRange, foundAt};
 
 // How many bytes a patch has.
 pub const SIZE: usize = PLACES;
@@ -43,7 +44,7 @@ pub fn half_used(source: u8, destination: u8) -> bool
 // `true` only where the name's bytes, which go from 0 on, lie in their ranges: without a branch, so that they are seen at once. The callers
 // of this and of the passes below have tested the length.
 fn name_in_range(p: &[u8]) -> bool
-    requires { ⌜ length (now p) ≡ 134 ⌝ }
+    requires { ⌜ length (now p) ≡ size ⌝ }
     ensures { λ r. ⌜ (r ≡ true → InRange 0 8 (now (p .entry))) ⌝ }
 {
     let mut out: u8 = 0;
@@ -62,8 +63,8 @@ fn name_in_range(p: &[u8]) -> bool
 // The same of the bytes behind the name, sixteen at once: none is further above its least value than its width. The last sixteen
 // begin before the others end, so that they are sixteen too.
 fn rest_in_range(p: &[u8]) -> bool
-    requires { ⌜ length (now p) ≡ 134 ⌝ }
-    ensures { λ r. ⌜ (r ≡ true → InRange 8 134 (now (p .entry))) ⌝ }
+    requires { ⌜ length (now p) ≡ size ⌝ }
+    ensures { λ r. ⌜ (r ≡ true → InRange 8 size (now (p .entry))) ⌝ }
 {
     let least = LEAST;
     let width = WIDTH;
@@ -91,7 +92,7 @@ fn rest_in_range(p: &[u8]) -> bool
 
 // `true` only where every byte lies in the range of its field.
 fn all_in_range(p: &[u8]) -> bool
-    requires { ⌜ length (now p) ≡ 134 ⌝ }
+    requires { ⌜ length (now p) ≡ size ⌝ }
     ensures { λ r. ⌜ (r ≡ true → firstOut (now (p .entry)) ≡ none) ⌝ }
 {
     if !name_in_range(p) {
@@ -102,7 +103,7 @@ fn all_in_range(p: &[u8]) -> bool
 
 // The lowest place out of range. Its callers have tested the length.
 fn first_out(p: &[u8]) -> Failed
-    requires { ⌜ length (now p) ≡ 134 ⌝ }
+    requires { ⌜ length (now p) ≡ size ⌝ }
     ensures { λ r. ⌜ r ≡ foundAt (firstOut (now (p .entry))) ⌝ }
 {
     if all_in_range(p) {
@@ -123,7 +124,7 @@ fn first_out(p: &[u8]) -> Failed
 // `true` only where no bus is half used. Each of 28 bytes is seen with the second behind it, many at once: every third is a source,
 // with its destination.
 fn buses_whole(p: &[u8]) -> bool
-    requires { ⌜ length (now p) ≡ 134 ⌝ }
+    requires { ⌜ length (now p) ≡ size ⌝ }
     ensures { λ r. ⌜ (r ≡ true → firstHalf (now (p .entry)) ≡ none) ⌝ }
 {
     let mut half: u8 = 0;
@@ -147,7 +148,7 @@ fn buses_whole(p: &[u8]) -> bool
 
 // The lowest bus half used. Its callers have tested the length.
 fn first_half(p: &[u8]) -> Failed
-    requires { ⌜ length (now p) ≡ 134 ⌝ }
+    requires { ⌜ length (now p) ≡ size ⌝ }
     ensures { λ r. ⌜ r ≡ foundAt (firstHalf (now (p .entry))) ⌝ }
 {
     if buses_whole(p) {
@@ -165,7 +166,7 @@ fn first_half(p: &[u8]) -> Failed
 
 // The fields of 134 bytes: 11, then 12. Its callers have tested the length.
 pub(crate) fn test_fields(p: &[u8]) -> Outcome
-    requires { ⌜ length (now p) ≡ 134 ⌝ }
+    requires { ⌜ length (now p) ≡ size ⌝ }
     ensures { λ r. ⌜ r ≡ tested (fieldRows (now (p .entry))) ⌝ }
 {
     let out = first_out(p);

@@ -14,10 +14,10 @@ use Rattle.nibbles.specs.Nibbles.{pack, packing}
 use Rattle.nibbles.proofs.Laws.{length-pack, packing-done}
 use Rattle.messages.specs.Kinds.{kindOf, packedSize}
 use Rattle.messages.specs.Judge.{judge}
-use Rattle.messages.specs.Judged.{judged}
+use Rattle.messages.specs.code.Judged.{judged}
 use Rattle.messages.specs.declared.judging.Judged.{Judged}
 use Rattle.messages.proofs.Accepted.{Accepted, accepted}
-use Rattle.reading.specs.Told.{readingAs, recorded}
+use Rattle.reading.specs.code.Told.{readingAs, recorded}
 use Rattle.reading.specs.declared.recording.Reading.{Reading}
 
 -- The packed bytes of an accepted message.

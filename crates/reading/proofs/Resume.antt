@@ -13,7 +13,7 @@ use Rattle.frames.specs.Scan.{outside, scan}
 use Rattle.frames.specs.Order.{InOrder}
 use Rattle.frames.proofs.Walk.{Walked, nothing, message, walked, reports-scan, scan-order}
 use Rattle.messages.specs.Judge.{judge}
-use Rattle.reading.specs.Rooms.{width, endOf, most, made, Makes, reportsByCalls, CallsMakeReports}
+use Rattle.reading.specs.code.Rooms.{width, endOf, most, made, Makes, reportsByCalls, CallsMakeReports}
 use Rattle.reading.specs.declared.listing.Listed.{Listed}
 use Rattle.reading.proofs.Rooms.{take-most, made-fits}
 

@@ -10,8 +10,8 @@ use Rattle.answers.proofs.Lists.{to-end, then-part}
 use Rattle.frames.specs.Stream.{Report}
 use Rattle.frames.specs.Scan.{outside, scan}
 use Rattle.messages.specs.Judge.{judge}
-use Rattle.reading.specs.Rooms.{numbersOf, width, flat, fitting, Holds, endOf, most, made, Makes}
-use Rattle.reading.specs.Told.{reportOf}
+use Rattle.reading.specs.code.Rooms.{numbersOf, width, flat, fitting, Holds, endOf, most, made, Makes}
+use Rattle.reading.specs.code.Told.{reportOf}
 use Rattle.reading.specs.declared.walking.Report.{Report as Numbers}
 
 pub length-flat : (rs : List Report) → length (flat rs) ≡ width * length rs

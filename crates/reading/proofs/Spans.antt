@@ -8,15 +8,15 @@ use lib.Seq.{length-take-le}
 use Rattle.answers.specs.Table.{outcome, four}
 use Rattle.answers.specs.Effect.{Gives}
 use Rattle.frames.specs.Bytes.{body, withoutRealTime, realTimeIn, framed}
-use Rattle.frames.specs.Extent.{spanOf, endingOf}
+use Rattle.frames.specs.code.Extent.{spanOf, endingOf}
 use Rattle.frames.specs.Stream.{messageAt}
 use Rattle.frames.specs.declared.Span.{Span}
 use Rattle.frames.proofs.Bytes.{body-within, body-take}
 use Rattle.frames.proofs.Found.{message-refused, message-complete}
 use Rattle.messages.specs.Judge.{judge}
-use Rattle.messages.specs.Judged.{judged}
+use Rattle.messages.specs.code.Judged.{judged}
 use Rattle.messages.specs.declared.judging.Judged.{Judged}
-use Rattle.reading.specs.Told.{reportAs, reportOf, readingAs, recorded, readMessage}
+use Rattle.reading.specs.code.Told.{reportAs, reportOf, readingAs, recorded, readMessage}
 use Rattle.reading.specs.declared.recording.Reading.{Reading}
 
 module _ (t : List ℕ) (s : Span) (e : s ≡ spanOf t) where

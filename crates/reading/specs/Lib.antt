@@ -1,2 +1,1 @@
-pub mod Told
-pub mod Rooms
+pub mod code

@@ -7,7 +7,7 @@ ghost use Prim.Native.Nat.{suc, _+_, _^_, _<_, _≤_};
 ghost use lib.ListN.{length, drop};
 ghost use Rattle.frames.specs.Scan.{outside, inside, scan};
 ghost use Rattle.messages.specs.Judge.{judge};
-ghost use Rattle.reading.specs.Rooms.{width, fitting, made, Holds, Makes};
+ghost use Rattle.reading.specs.code.Rooms.{width, fitting, made, Holds, Makes};
 
 // How many reports were made, and the place from which to go on.
 #[repr(C)]
@@ -66,7 +66,7 @@ fn list_inside(rest: &[u8], start: usize, room: &mut [usize]) -> usize
         return 1;
     }
     let place = start + 1 + n;
-    if rest[n] == 0xF0 {
+    if rest[n] == frames::START {
         return 1 + list_inside(&rest[n + 1..], place, &mut room[WIDTH..]);
     }
     1 + list_outside(&rest[n + 1..], place + 1, &mut room[WIDTH..])

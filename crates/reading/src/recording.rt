@@ -17,9 +17,9 @@ ghost use lib.ListN.{length};
 ghost use Rattle.answers.specs.Effect.{Gives};
 ghost use Rattle.answers.specs.Table.{four};
 ghost use Rattle.frames.specs.Bytes.{framed, withoutRealTime, realTimeIn};
-ghost use Rattle.frames.specs.Extent.{spanOf};
+ghost use Rattle.frames.specs.code.Extent.{spanOf};
 ghost use Rattle.messages.specs.Judge.{judge};
-ghost use Rattle.reading.specs.Told.{readingAs, recorded, readMessage, reads};
+ghost use Rattle.reading.specs.code.Told.{readingAs, recorded, readMessage, reads};
 
 // A report, and the bytes that come with its answer: a patch number, or an edit's two or four, as received; zero where the message
 // has none and with every answer but 0.

@@ -10,11 +10,11 @@ ghost use mathlib.Core.Path.{_≡_};
 ghost use Prim.Native.Nat.{_+_, _^_, _<_};
 ghost use lib.ListN.{length};
 ghost use Rattle.frames.specs.Bytes.{framed, withoutRealTime, realTimeIn};
-ghost use Rattle.frames.specs.Extent.{spanOf};
+ghost use Rattle.frames.specs.code.Extent.{spanOf};
 ghost use Rattle.frames.specs.Stream.{messageAt};
 ghost use Rattle.messages.specs.Judge.{judge};
-ghost use Rattle.messages.specs.Judged.{judged};
-ghost use Rattle.reading.specs.Told.{Front, reportOf, walked};
+ghost use Rattle.messages.specs.code.Judged.{judged};
+ghost use Rattle.reading.specs.code.Told.{Front, reportOf, walked};
 
 // Where a message starts and ends, and its outcome.
 #[repr(C)]

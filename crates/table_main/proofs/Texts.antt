@@ -6,7 +6,7 @@ use Prim.Native.Nat.{ℕ, suc, _+_, _-_, _<_}
 use native.Mathlib.Numerals.{add-one}
 use native.Mathlib.Omega.{arith}
 use Rattle.text.specs.Text.{ascii, followed}
-use Rattle.fields.specs.Columns.{foundParameter}
+use Rattle.fields.specs.code.Columns.{foundParameter}
 use Rattle.fields.specs.declared.FoundParameter.{FoundParameter}
 use Rattle.fields.specs.declared.FoundParameter.the-variants.{Of, Nothing}
 use Rattle.table_main.specs.Table.{parameterText, tableRow, tableRows}

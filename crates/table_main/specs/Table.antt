@@ -4,7 +4,7 @@ use mathlib.Core.Option.{Option, none, some}
 use Prim.Native.Nat.{ℕ, zero, suc, _≤_}
 use lib.ListN.{length}
 use Rattle.text.specs.Text.{ascii, followed}
-use Rattle.fields.specs.Fields.{leastAt, greatestAt, parameterOf}
+use Rattle.fields.specs.Fields.{size, leastAt, greatestAt, parameterOf}
 use Rattle.fields.specs.Values.{Value, plus, minus, valueOf}
 
 -- A parameter, or a dash where there is none, and a space behind it.
@@ -31,7 +31,7 @@ tableRows (suc n) k = tableRow k ++ tableRows n (suc k)
 
 -- Bytes of a patch.
 abbrev pub places : ℕ
-places = 134
+places = size
 
 unfoldable pub tableText : List ℕ
 tableText = tableRows places 0

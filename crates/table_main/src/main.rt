@@ -10,7 +10,7 @@ ghost use Rattle.fields.specs.Values.{valueOf};
 ghost use Rattle.table_main.specs.Table.{parameterText, valueText, tableRow, tableText};
 
 // Bytes of a patch.
-const PLACES: u8 = 134;
+const PLACES: u8 = fields::PLACES as u8;
 
 // A place's parameter and a space behind it; a dash where it has none.
 fn put_parameter(room: &mut [u8], at: usize, place: u8) -> usize

@@ -32,7 +32,7 @@ use Rattle.messages.specs.Kinds.{kindOf}
 use Rattle.messages.specs.Judge.{byteAt, messageRows, judge}
 use Rattle.messages.specs.Layout.{message, givenRows}
 use Rattle.messages.proofs.Numbers.{IsDone, made, record-done, message-refusals, given-refusals}
-use Rattle.reading.specs.Told.{reportOr, walked, reads}
+use Rattle.reading.specs.code.Told.{reportOr, walked, reads}
 use Rattle.writing.specs.declared.BankOutcome.{BankOutcome}
 use Rattle.writing.specs.Writing.{writing, writingBank, bankFrom, firstBad, orLater, unlessBad}
 use Rattle.theorems.specs.Answers.{fromStart, isEmpty, found, complete, recordIn, opcodeIn, walkRows, thenRoom, Answered, patchesRows, bankBytes, bankTable, Demand1}

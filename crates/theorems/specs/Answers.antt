@@ -12,6 +12,7 @@ use Rattle.answers.specs.Table.{Row, row, Verdict, outcomeOf, four}
 use Rattle.answers.specs.Effect.{Effect, tested, Keeps, Decides}
 use Rattle.frames.specs.Bytes.{body, withoutRealTime, framed}
 use Rattle.frames.specs.Stream.{packedIn, reports}
+use Rattle.fields.specs.Fields.{size}
 use Rattle.patch.specs.Patch.{fieldRows, patchRows}
 use Rattle.names.specs.Names.{shown, nameRows, naming, showing}
 use Rattle.edits.specs.Edits.{editRows, busRows, applying, applyingBus}
@@ -19,8 +20,8 @@ use Rattle.messages.specs.declared.kinds.Kind.{Kind}
 use Rattle.messages.specs.Kinds.{kindOf}
 use Rattle.messages.specs.Judge.{byteAt, recordOf, messageRows, judge}
 use Rattle.messages.specs.Layout.{message, givenRows}
-use Rattle.reading.specs.Told.{walked, reads}
-use Rattle.writing.specs.Writing.{writing, bankFrom, writingBank}
+use Rattle.reading.specs.code.Told.{walked, reads}
+use Rattle.writing.specs.Writing.{writing, bankFrom, bankMost, writingBank}
 
 -- The bytes from the first F0H on.
 unfoldable pub fromStart : List ℕ → List ℕ
@@ -72,15 +73,15 @@ pub record Answered (rows : List Row) (detail n : ℕ) (old : List ℕ) (o : Out
 -- The rows of a bank's n patches, patch after patch, and its table.
 abbrev pub patchesRows : ℕ → List ℕ → List Row
 patchesRows zero ps = []
-patchesRows (suc n) ps = fieldRows (take 134 ps) ++ patchesRows n (drop 134 ps)
+patchesRows (suc n) ps = fieldRows (take size ps) ++ patchesRows n (drop size ps)
 
 abbrev pub bankBytes : List ℕ → List ℕ
-bankBytes ps = bankFrom (length ps / 134) 0 ps
+bankBytes ps = bankFrom (length ps / size) 0 ps
 
 abbrev pub bankTable : List ℕ → List ℕ → List Row
 bankTable ps out =
-    row 7 (not (eqb (length ps % 134) 0) || ltb (100 * 134) (length ps)) ∷
-    thenRoom (patchesRows (length ps / 134) ps) (length (bankBytes ps)) out
+    row 7 (not (eqb (length ps % size) 0) || ltb bankMost (length ps)) ∷
+    thenRoom (patchesRows (length ps / size) ps) (length (bankBytes ps)) out
 
 -- Demand 1, whole.
 pub record Demand1 : Type 0 where

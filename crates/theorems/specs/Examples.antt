@@ -7,6 +7,7 @@ use Rattle.answers.specs.declared.Outcome.{Outcome}
 use Rattle.answers.specs.Lists.{All}
 use Rattle.answers.specs.Table.{Verdict, refused, outcome}
 use Rattle.answers.specs.Effect.{Effect}
+use Rattle.fields.specs.Fields.{size}
 use Rattle.names.specs.Names.{naming}
 use Rattle.fields.specs.Values.{plus, minus, valueOf}
 use Rattle.edits.specs.Edits.{extended, applying, applyingBus}
@@ -21,8 +22,8 @@ use Rattle.writing.specs.Writing.{writing}
 pub data Example : Type 1 where
   gives : {A : Type 0} (computed result : A) → Example
 
-abbrev pub Holds : Example → Type 0
-Holds (gives x y) = x ≡ y
+abbrev pub Computes : Example → Type 0
+Computes (gives x y) = x ≡ y
 
 -- n bytes, zero but for the given ones: place and byte of each.
 abbrev pub zerosBut : ℕ → List (ℕ × ℕ) → List ℕ
@@ -31,7 +32,7 @@ zerosBut n ((place, byte) ∷ others) = set (zerosBut n others) place byte
 
 -- P is the patch of zeros with byte 76 = 1.
 abbrev pub P : List ℕ
-P = zerosBut 134 ((76, 1) ∷ [])
+P = zerosBut size ((76, 1) ∷ [])
 
 -- An output that just fits a patch dump, no byte of it zero.
 abbrev pub room : List ℕ
@@ -52,11 +53,11 @@ abbrev pub bass : List ℕ
 bass = 0x42 ∷ 0x41 ∷ 0x53 ∷ 0x53 ∷ 0x20 ∷ 0x31 ∷ 0x20 ∷ 0x20 ∷ []
 
 -- An edit by its bytes: read, written, and applied to P.
-abbrev pub reads : Kind → List ℕ → Verdict
-reads k b = judge (message k b [])
+abbrev pub asRead : Kind → List ℕ → Verdict
+asRead k b = judge (message k b [])
 
-abbrev pub writes : Kind → List ℕ → Effect Outcome
-writes k b = writing k b [] room
+abbrev pub asWritten : Kind → List ℕ → Effect Outcome
+asWritten k b = writing k b [] room
 
 abbrev pub edit : ℕ → ℕ → List ℕ
 edit parameter v = parameter ∷ v ∷ []
@@ -72,7 +73,7 @@ starred =
     gives (as-number-0 P) (effect (outcome 0 275) (zerosBut 275 ((0, 0xF0) ∷ (1, 0x10) ∷ (2, 0x06) ∷ (3, 0x01) ∷ (157, 0x01) ∷ (273, 0x01) ∷ (274, 0xF7) ∷ []))) ∷
     -- P named `BASS 1` with two spaces behind: bytes 2, 1, 19, 19, 32, 49, 32, 32; sum 3BH.
     gives (naming P bass)
-    (effect (outcome 0 0) (zerosBut 134 ((0, 2) ∷ (1, 1) ∷ (2, 19) ∷ (3, 19) ∷ (4, 32) ∷ (5, 49) ∷ (6, 32) ∷ (7, 32) ∷ (76, 1) ∷ []))) ∷
+    (effect (outcome 0 0) (zerosBut size ((0, 2) ∷ (1, 1) ∷ (2, 19) ∷ (3, 19) ∷ (4, 32) ∷ (5, 49) ∷ (6, 32) ∷ (7, 32) ∷ (76, 1) ∷ []))) ∷
     gives (sumWith (naming P bass .lent)) 0x3B ∷
     -- P with bus 0 set to source 1, amount -1, destination 1: sum 02H.
     gives (sumWith (applyingBus 0 1 0x7F 1 P .lent)) 0x02 ∷
@@ -81,30 +82,30 @@ starred =
     gives (valueOf (extended 0x40)) (minus 64) ∷
     gives (valueOf (extended 0x7F)) (minus 1) ∷
     -- 06H 15H 7FH: byte 26 is 127.
-    gives (reads (ofShort remoteEdit) (edit 0x15 0x7F)) (recordFor (ofShort remoteEdit) (edit 0x15 0x7F) []) ∷
+    gives (asRead (ofShort remoteEdit) (edit 0x15 0x7F)) (recordFor (ofShort remoteEdit) (edit 0x15 0x7F) []) ∷
     gives (applying 0x15 0x7F P) (effect (outcome 0 0) (set P 26 127)) ∷
     -- 06H 0CH 60H: byte 19 is E0H. 0CH 5FH: 11 at 19.
-    gives (reads (ofShort remoteEdit) (edit 0x0C 0x60)) (recordFor (ofShort remoteEdit) (edit 0x0C 0x60) []) ∷
+    gives (asRead (ofShort remoteEdit) (edit 0x0C 0x60)) (recordFor (ofShort remoteEdit) (edit 0x0C 0x60) []) ∷
     gives (applying 0x0C 0x60 P) (effect (outcome 0 0) (set P 19 0xE0)) ∷
-    gives (reads (ofShort remoteEdit) (edit 0x0C 0x5F)) (refused (outcome 11 19)) ∷
-    gives (writes (ofShort remoteEdit) (edit 0x0C 0x5F)) (effect (outcome 11 19) room) ∷
+    gives (asRead (ofShort remoteEdit) (edit 0x0C 0x5F)) (refused (outcome 11 19)) ∷
+    gives (asWritten (ofShort remoteEdit) (edit 0x0C 0x5F)) (effect (outcome 11 19) room) ∷
     gives (applying 0x0C 0x5F P) (effect (outcome 11 19) P) ∷
     -- 06H 00H 40H: 11 at 9.
-    gives (reads (ofShort remoteEdit) (edit 0x00 0x40)) (refused (outcome 11 9)) ∷
-    gives (writes (ofShort remoteEdit) (edit 0x00 0x40)) (effect (outcome 11 9) room) ∷
+    gives (asRead (ofShort remoteEdit) (edit 0x00 0x40)) (refused (outcome 11 9)) ∷
+    gives (asWritten (ofShort remoteEdit) (edit 0x00 0x40)) (effect (outcome 11 9) room) ∷
     gives (applying 0x00 0x40 P) (effect (outcome 11 9) P) ∷
     -- Parameter 39: 8, whatever the value.
-    gives {A = ℕ → Verdict} (λ (v : ℕ). reads (ofShort remoteEdit) (edit 39 v)) (λ (v : ℕ). refused (outcome 8 0)) ∷
-    gives {A = ℕ → Effect Outcome} (λ (v : ℕ). writes (ofShort remoteEdit) (edit 39 v)) (λ (v : ℕ). effect (outcome 8 0) room) ∷
+    gives {A = ℕ → Verdict} (λ (v : ℕ). asRead (ofShort remoteEdit) (edit 39 v)) (λ (v : ℕ). refused (outcome 8 0)) ∷
+    gives {A = ℕ → Effect Outcome} (λ (v : ℕ). asWritten (ofShort remoteEdit) (edit 39 v)) (λ (v : ℕ). effect (outcome 8 0) room) ∷
     gives {A = ℕ → Effect Outcome} (λ (v : ℕ). applying 39 v P) (λ (v : ℕ). effect (outcome 8 0) P) ∷
     -- Bus 9, source 20, amount 40H, destination 31: bytes 131-133 are 14H, C0H, 1FH.
-    gives (reads (ofShort busEdit) (bus 9 20 0x40 31)) (recordFor (ofShort busEdit) (bus 9 20 0x40 31) []) ∷
-    gives (applyingBus 9 20 0x40 31 P) (effect (outcome 0 0) (zerosBut 134 ((76, 1) ∷ (131, 0x14) ∷ (132, 0xC0) ∷ (133, 0x1F) ∷ []))) ∷
+    gives (asRead (ofShort busEdit) (bus 9 20 0x40 31)) (recordFor (ofShort busEdit) (bus 9 20 0x40 31) []) ∷
+    gives (applyingBus 9 20 0x40 31 P) (effect (outcome 0 0) (zerosBut size ((76, 1) ∷ (131, 0x14) ∷ (132, 0xC0) ∷ (133, 0x1F) ∷ []))) ∷
     -- Bus 0, source 1, destination 0: 12, detail 0.
-    gives (reads (ofShort busEdit) (bus 0 1 0 0)) (refused (outcome 12 0)) ∷
-    gives (writes (ofShort busEdit) (bus 0 1 0 0)) (effect (outcome 12 0) room) ∷
+    gives (asRead (ofShort busEdit) (bus 0 1 0 0)) (refused (outcome 12 0)) ∷
+    gives (asWritten (ofShort busEdit) (bus 0 1 0 0)) (effect (outcome 12 0) room) ∷
     gives (applyingBus 0 1 0 0 P) (effect (outcome 12 0) P) ∷ []
 
 -- Every row holds.
 abbrev pub Starred : Type 0
-Starred = All Holds starred
+Starred = All Computes starred

@@ -10,6 +10,7 @@ use Rattle.answers.specs.Table.{Verdict, done, outcome, answerOf}
 use Rattle.answers.specs.Effect.{Effect}
 use Rattle.frames.specs.Bytes.{withoutRealTime}
 use Rattle.frames.specs.Stream.{Report, report, Reading, reading, walk, reports, read}
+use Rattle.fields.specs.Fields.{size}
 use Rattle.names.specs.Names.{naming, showing}
 use Rattle.edits.specs.Edits.{applying, applyingBus}
 use Rattle.edits.specs.Done.{EditDone, BusDone}
@@ -89,7 +90,7 @@ ReadWrittenAgain = (s : List ℕ) (place : ℕ) (lent : List ℕ) → read judge
 abbrev pub bankReports : ℕ → ℕ → ℕ → List ℕ → List Report
 bankReports place zero k ps = []
 bankReports place (suc n) k ps =
-    report (place + k * 275) (place + (k + 1) * 275) (recordFor (ofDump singlePatch) (k ∷ []) (take 134 (drop (k * 134) ps))) ∷ bankReports place n (k + 1) ps
+    report (place + k * singlePatch .length) (place + (k + 1) * singlePatch .length) (recordFor (ofDump singlePatch) (k ∷ []) (take size (drop (k * size) ps))) ∷ bankReports place n (k + 1) ps
 
 -- The bytes that the writer of a bank put at the start of an output.
 abbrev pub bankSent : List ℕ → List ℕ → List ℕ
@@ -99,7 +100,7 @@ bankSent ps out = take (writingBank ps out .result .outcome .detail) (writingBan
 abbrev pub BankReadBack : Type 0
 BankReadBack = (ps out : List ℕ) → writingBank ps out .result .outcome .answer ≡ 0 → (before behind : List ℕ)
     → reports judge (stream before (bankSent ps out) behind)
-    ≡ reportsBefore before (bankSent ps out) behind ++ (bankReports (length before) (length ps / 134) 0 ps ++ reportsAfter before (bankSent ps out) behind)
+    ≡ reportsBefore before (bankSent ps out) behind ++ (bankReports (length before) (length ps / size) 0 ps ++ reportsAfter before (bankSent ps out) behind)
 
 -- Demand 2, whole.
 pub record Demand2 : Type 0 where

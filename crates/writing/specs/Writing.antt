@@ -8,6 +8,7 @@ use lib.ListN.{length, take, drop}
 use Rattle.answers.specs.declared.Outcome.{Outcome}
 use Rattle.answers.specs.Table.{Verdict, done, refused, first, outcome}
 use Rattle.answers.specs.Effect.{Effect, toldAs, written}
+use Rattle.fields.specs.Fields.{size}
 use Rattle.patch.specs.Patch.{fieldRows}
 use Rattle.messages.specs.declared.kinds.Kind.{Kind}
 use Rattle.messages.specs.Kinds.{singlePatch}
@@ -21,7 +22,7 @@ writing k b p out = written (givenRows k b p) (message k b p) out
 -- n patches end to end as dumps, numbered from k.
 unfoldable pub bankFrom : ℕ → ℕ → List ℕ → List ℕ
 bankFrom zero k ps = []
-bankFrom (suc n) k ps = dump (singlePatch .opcode) k (take 134 ps) ++ bankFrom n (suc k) (drop 134 ps)
+bankFrom (suc n) k ps = dump (singlePatch .opcode) k (take size ps) ++ bankFrom n (suc k) (drop size ps)
 
 -- An outcome, and as place the number of the patch that is refused, 0 with other answers.
 abbrev pub bankOutcome : Outcome → ℕ → BankOutcome
@@ -38,7 +39,7 @@ orLater k (done o b p) later = later
 -- The lowest bad one of n patches numbered from k: its own 11 or 12 with the detail, its number as place.
 unfoldable pub firstBad : ℕ → ℕ → List ℕ → Option BankOutcome
 firstBad zero k ps = none
-firstBad (suc n) k ps = orLater k (first (fieldRows (take 134 ps)) (done 0 [] [])) (firstBad n (suc k) (drop 134 ps))
+firstBad (suc n) k ps = orLater k (first (fieldRows (take size ps)) (done 0 [] [])) (firstBad n (suc k) (drop size ps))
 
 -- What the test of a bank's patches answers: the lowest bad one, or done with zeros.
 abbrev pub bankTested : Option BankOutcome → BankOutcome
@@ -50,9 +51,13 @@ abbrev pub unlessBad : Option BankOutcome → List ℕ → List ℕ → Effect B
 unlessBad none bytes out = toldAs noPlace (written [] bytes out)
 unlessBad (some b) bytes out = record { result = b; lent = out }
 
+-- A bank has at most 100 patches.
+abbrev pub bankMost : ℕ
+bankMost = 100 * size
+
 -- A bank of 0 to 100 patches numbered from 0: 7, then the lowest bad patch's 11 or 12, then 13.
 unfoldable pub writingBank : List ℕ → List ℕ → Effect BankOutcome
 writingBank ps out =
-    cond (not (eqb (length ps % 134) 0) || ltb (100 * 134) (length ps))
+    cond (not (eqb (length ps % size) 0) || ltb bankMost (length ps))
     (record { result = noPlace (outcome 7 0); lent = out })
-    (unlessBad (firstBad (length ps / 134) 0 ps) (bankFrom (length ps / 134) 0 ps) out)
+    (unlessBad (firstBad (length ps / size) 0 ps) (bankFrom (length ps / size) 0 ps) out)

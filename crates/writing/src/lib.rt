@@ -27,11 +27,12 @@ ghost use mathlib.Core.List.{[], _∷_, _++_};
 ghost use Prim.Native.Nat.{_+_, _*_, _/_, _≤_};
 ghost use lib.ListN.{length, drop};
 ghost use Rattle.answers.specs.Effect.{Gives, tested, written};
+ghost use Rattle.fields.specs.Fields.{size};
 ghost use Rattle.nibbles.specs.Nibbles.{sum};
 ghost use Rattle.messages.specs.declared.kinds.Kind.the-variants.{Dump as ofDump, Short as ofShort};
 ghost use Rattle.messages.specs.Kinds.{singlePatch, masterParameters, editBuffer, remoteEdit, busEdit, Sized};
 ghost use Rattle.messages.specs.Layout.{dump, dumpGiven};
-ghost use Rattle.writing.specs.Writing.{writing, writingBank, bankFrom, firstBad, bankTested, noPlace};
+ghost use Rattle.writing.specs.Writing.{writing, writingBank, bankFrom, firstBad, bankTested, bankMost, noPlace};
 
 // A bank has at most 100 patches.
 const BANK: usize = 100 * PATCH;
@@ -48,7 +49,7 @@ fn put_opening(opcode: u8, out: &mut [u8])
     requires { ⌜ 4 ≤ length (now out) ⌝ }
     ensures { λ _. ⌜ now (out .exit) ≡ (0xF0 ∷ 0x10 ∷ 0x06 ∷ opcode ∷ []) ++ drop 4 (now (out .entry)) ⌝ }
 {
-    out[0] = 0xF0;
+    out[0] = frames::START;
     out[1] = MAKER;
     out[2] = DEVICE;
     out[3] = opcode;
@@ -60,7 +61,7 @@ fn put_closing(packed: &[u8], out: &mut [u8])
     ensures { λ _. ⌜ now (out .exit) ≡ (sum (now (packed .entry)) ∷ 0xF7 ∷ []) ++ drop 2 (now (out .entry)) ⌝ }
 {
     out[0] = nibbles::checksum(packed);
-    out[1] = 0xF7;
+    out[1] = frames::END;
 }
 
 // One dump of any kind at the start of an output. The callers below have seen that it fits.
@@ -156,7 +157,7 @@ fn write_short(kind: Short, bytes: &[u8], out: &mut [u8]) -> Outcome
     }
     put_opening(kind.opcode, out);
     put_bytes(bytes, &mut out[4..]);
-    out[length - 1] = 0xF7;
+    out[length - 1] = frames::END;
     answers::done(length)
 }
 
@@ -183,7 +184,7 @@ fn no_place(outcome: Outcome) -> BankOutcome
 
 // The lowest bad patch of a bank: its own 11 or 12 with its number as place, or done with zeros.
 fn test_bank(ps: &[u8]) -> BankOutcome
-    ensures { λ r. ⌜ r ≡ bankTested (firstBad (length (now (ps .entry)) / 134) 0 (now (ps .entry))) ⌝ }
+    ensures { λ r. ⌜ r ≡ bankTested (firstBad (length (now (ps .entry)) / size) 0 (now (ps .entry))) ⌝ }
 {
     let n = ps.len() / PATCH;
     let mut k: usize = 0;
@@ -201,8 +202,8 @@ fn test_bank(ps: &[u8]) -> BankOutcome
 
 // Dump after dump, each from its own place. `write_bank` has tested the length and the room.
 fn put_bank(ps: &[u8], out: &mut [u8])
-    requires { ⌜ (length (now ps) ≤ 13400) × (length (now ps) / 134 * 275 ≤ length (now out)) ⌝ }
-    ensures { λ _. ⌜ now (out .exit) ≡ bankFrom (length (now (ps .entry)) / 134) 0 (now (ps .entry)) ++ drop (length (now (ps .entry)) / 134 * 275) (now (out .entry)) ⌝ }
+    requires { ⌜ (length (now ps) ≤ bankMost) × (length (now ps) / size * singlePatch .length ≤ length (now out)) ⌝ }
+    ensures { λ _. ⌜ now (out .exit) ≡ bankFrom (length (now (ps .entry)) / size) 0 (now (ps .entry)) ++ drop (length (now (ps .entry)) / size * singlePatch .length) (now (out .entry)) ⌝ }
 {
     let count = ps.len() / PATCH;
     let mut k: usize = 0;

@@ -3,7 +3,7 @@ use mathlib.Core.Path.{_≡_, ap, sym, _∙_}
 use Prim.Native.Nat.{ℕ, _+_, _*_, _/_, _%_, _^_}
 use native.Mathlib.Omega.{arith}
 use borrow.Author.Needs.{needs}
-use Rattle.fields.specs.Columns.{rangeAt}
+use Rattle.fields.specs.code.Columns.{rangeAt}
 use Rattle.fields.proofs.Widths.{in-range-number, number-high}
 use Rattle.fields.proofs.in_range.Statement.{statement}
 use Rattle.fields.proofs.in_range.Tie as tie

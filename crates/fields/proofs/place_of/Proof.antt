@@ -4,7 +4,7 @@ use mathlib.Core.Option.{some}
 use Prim.Native.Nat.{ℕ, _+_, _*_, _/_, _%_, _^_}
 use native.Mathlib.Omega.{arith}
 use borrow.Author.Needs.{needs}
-use Rattle.fields.specs.Columns.{foundPlace, placeOrNone}
+use Rattle.fields.specs.code.Columns.{foundPlace, placeOrNone}
 use Rattle.fields.proofs.Places.{numbered-none, numbered-some}
 use Rattle.fields.proofs.place_of.Statement.{statement}
 use Rattle.fields.proofs.place_of.Tie as tie

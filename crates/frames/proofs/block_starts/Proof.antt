@@ -2,7 +2,7 @@
 use mathlib.Core.Path.{_≡_}
 use Prim.Native.Nat.{_≤_, _-_}
 use native.Mathlib.Omega.{arith}
-use Rattle.frames.specs.Blocks.{None}
+use Rattle.frames.specs.code.Blocks.{None}
 use Rattle.frames.proofs.Blocks.{flag-more, flag-clear}
 use Rattle.frames.proofs.block_starts.Statement.{statement}
 use Rattle.frames.proofs.block_starts.Tie as tie

@@ -6,7 +6,7 @@ use native.Mathlib.Omega.{arith}
 use lib.ListN.{length, take, set, length-set, length-append, getD}
 use lib.Seq.{take-all, take-nil}
 use Rattle.frames.specs.Bytes.{withoutRealTime}
-use Rattle.frames.specs.Extent.{Kept}
+use Rattle.frames.specs.code.Extent.{Kept}
 use Rattle.frames.proofs.Kept.{without-dropped, without-kept, kept-more, kept-full}
 use Rattle.frames.proofs.drop_real_time.Statement.{statement}
 use Rattle.frames.proofs.drop_real_time.Tie as tie

@@ -5,7 +5,7 @@ use Prim.Native.Nat.{_≤_, _+_, _-_}
 use native.Mathlib.Omega.{arith}
 use lib.ListN.{length, drop}
 use borrow.Author.Needs.{needs}
-use Rattle.frames.specs.Extent.{ahead}
+use Rattle.frames.specs.code.Extent.{ahead}
 use Rattle.frames.proofs.Extent.{ahead-other, ahead-found, ahead-end}
 use Rattle.frames.proofs.find_start.Statement.{statement}
 use Rattle.frames.proofs.find_start.Tie as tie

@@ -4,7 +4,7 @@ use native.Mathlib.Omega.{arith}
 use lib.ListN.{drop, length-drop}
 use borrow.Author.Needs.{needs}
 use Rattle.answers.proofs.Lists.{to-end}
-use Rattle.frames.specs.Extent.{ahead, startFrom}
+use Rattle.frames.specs.code.Extent.{ahead, startAt}
 use Rattle.frames.proofs.Extent.{ahead-within, start-past}
 use Rattle.frames.proofs.find_start_from.Statement.{statement}
 use Rattle.frames.proofs.find_start_from.Tie as tie
@@ -24,7 +24,7 @@ add-result c =
     omega (arith, counted c, ahead-within t, length-drop (start .args .place) (start .args .s .now), start .good)
 
 returns-2 : tie.Need-returns-2
-unfolding startFrom
+unfolding startAt
 returns-2 c = rw (counted c)
 
 pub find-start-from-spec : {M : Type 1} → statement M

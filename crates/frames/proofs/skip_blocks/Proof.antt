@@ -2,7 +2,7 @@
 use Prim.Native.Nat.{_-_}
 use native.Mathlib.Omega.{arith}
 use lib.ListN.{length}
-use Rattle.frames.specs.Blocks.{Ahead}
+use Rattle.frames.specs.code.Blocks.{Ahead}
 use Rattle.frames.proofs.Blocks.{ahead-none, ahead-more}
 use Rattle.frames.proofs.skip_blocks.Statement.{statement}
 use Rattle.frames.proofs.skip_blocks.Tie as tie

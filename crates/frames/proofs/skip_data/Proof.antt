@@ -2,7 +2,7 @@
 use Prim.Native.Nat.{_-_}
 use native.Mathlib.Omega.{arith}
 use lib.ListN.{length}
-use Rattle.frames.specs.Blocks.{Onward}
+use Rattle.frames.specs.code.Blocks.{Onward}
 use Rattle.frames.proofs.Blocks.{onward-none, onward-more}
 use Rattle.frames.proofs.skip_data.Statement.{statement}
 use Rattle.frames.proofs.skip_data.Tie as tie

@@ -4,7 +4,7 @@ use mathlib.Core.Logic.{⊎-elim}
 use Prim.Native.Nat.{_<_}
 use native.Mathlib.Omega.{arith}
 use borrow.Author.Needs.{needs}
-use Rattle.listing.specs.Pieces.{callsLeft}
+use Rattle.listing.specs.code.Pieces.{callsLeft}
 use Rattle.listing.proofs.Steps.{some-call, SoFar, no-step, same-room, one-more, piece-given}
 use Rattle.listing.proofs.next_piece.Statement.{statement}
 use Rattle.listing.proofs.next_piece.Tie as tie

@@ -2,7 +2,7 @@
 use native.Mathlib.Omega.{arith}
 use Rattle.text.specs.Text.{ascii}
 use Rattle.listing.specs.Listing.{header, tooLong}
-use Rattle.listing.specs.Pieces.{callsLeft}
+use Rattle.listing.specs.code.Pieces.{callsLeft}
 use Rattle.listing.proofs.Steps.{whole-long, whole-starts}
 use borrow.Author.Needs.{needs}
 use Rattle.listing.proofs.put_first.Statement.{statement}

@@ -5,8 +5,8 @@ use native.Mathlib.Omega.{arith}
 use lib.ListN.{length, drop}
 use borrow.Author.Needs.{needs}
 use Rattle.text.proofs.Puts.{Underway, put-on, put-whole}
-use Rattle.reading.specs.Rooms.{width}
-use Rattle.listing.specs.Steps.{rows}
+use Rattle.reading.specs.code.Rooms.{width}
+use Rattle.listing.specs.code.Steps.{rows}
 use Rattle.listing.proofs.Lines.{rows-next}
 use Rattle.listing.proofs.put_lines.Statement.{statement}
 use Rattle.listing.proofs.put_lines.Tie as tie

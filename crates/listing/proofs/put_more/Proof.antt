@@ -1,8 +1,8 @@
 -- `put_more` puts the lines of the reports that one call makes, or the count where it makes none.
 use native.Mathlib.Omega.{arith}
-use Rattle.reading.specs.Rooms.{made}
+use Rattle.reading.specs.code.Rooms.{made}
 use Rattle.listing.specs.Listing.{lines, total}
-use Rattle.listing.specs.Pieces.{callsLeft}
+use Rattle.listing.specs.code.Pieces.{callsLeft}
 use Rattle.listing.proofs.Lines.{total-most}
 use Rattle.listing.proofs.Steps.{call, none-left, made-lines, made-few, lines-left}
 use borrow.Author.Needs.{needs}

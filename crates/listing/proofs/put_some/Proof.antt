@@ -1,6 +1,6 @@
 -- `put_some` goes by what is left. Where nothing is, nothing is added.
 use native.Mathlib.Omega.{arith}
-use Rattle.listing.specs.Pieces.{leftOf}
+use Rattle.listing.specs.code.Pieces.{leftOf}
 use Rattle.listing.proofs.Steps.{left-past, left-outside, adds-none}
 use borrow.Author.Needs.{needs}
 use Rattle.listing.proofs.put_some.Statement.{statement}

@@ -5,7 +5,7 @@ use Prim.Native.Nat.{_≤_}
 use native.Mathlib.Omega.{arith}
 use lib.ListN.{length}
 use borrow.Author.Needs.{needs}
-use Rattle.listing.specs.Pieces.{leastRoom, callsLeft}
+use Rattle.listing.specs.code.Pieces.{leastRoom, callsLeft}
 use Rattle.listing.proofs.Steps.{some-call}
 use Rattle.listing_main.proofs.print.Statement.{statement}
 use Rattle.listing_main.proofs.print.Tie as tie

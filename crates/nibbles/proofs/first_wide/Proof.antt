@@ -7,7 +7,7 @@ use lib.ListN.{length, drop}
 use lib.Seq.{drop-cons}
 use borrow.Author.Needs.{needs}
 use Rattle.nibbles.specs.Nibbles.{wideFrom, firstWide}
-use Rattle.nibbles.specs.Wide.{foundWide}
+use Rattle.nibbles.specs.code.Wide.{foundWide}
 use Rattle.nibbles.proofs.Laws.{wide-here}
 use Rattle.nibbles.proofs.Passing.{wide-passed, wide-end}
 use Rattle.nibbles.proofs.first_wide.Statement.{statement}

@@ -10,7 +10,7 @@ use borrow.Author.Tests.{le-leb, lt-leb}
 use Rattle.fields.specs.Fields.{fields, inRange}
 use Rattle.fields.proofs.Widths.{column, widths, in-range-columns}
 use Rattle.patch.specs.Patch.{firstOut, outFrom}
-use Rattle.patch.specs.Passes.{foundAt}
+use Rattle.patch.specs.code.Passes.{foundAt}
 use Rattle.patch.proofs.Steps.{byte-in, byte-out, bytes-done}
 use Rattle.patch.proofs.first_out.Statement.{statement}
 use Rattle.patch.proofs.first_out.Tie as tie

@@ -3,7 +3,7 @@ use mathlib.Core.Path.{_≡_}
 use Prim.Native.Nat.{_≤_, _-_}
 use native.Mathlib.Omega.{arith}
 use borrow.Author.Tests.{eqb-true}
-use Rattle.patch.specs.Passes.{InRange}
+use Rattle.patch.specs.code.Passes.{InRange}
 use Rattle.fields.proofs.Rules.{name-accepts}
 use Rattle.patch.proofs.Passes.{in-range-more}
 use Rattle.patch.proofs.name_in_range.Statement.{statement}

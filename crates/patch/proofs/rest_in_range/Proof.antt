@@ -7,7 +7,7 @@ use borrow.Author.Needs.{needs}
 use borrow.Author.Tests.{eqb-true}
 use Rattle.fields.specs.Fields.{fields}
 use Rattle.fields.proofs.Widths.{column}
-use Rattle.patch.specs.Passes.{InRange}
+use Rattle.patch.specs.code.Passes.{InRange}
 use Rattle.patch.proofs.Passes.{columns-more, in-range-join}
 use Rattle.patch.proofs.rest_in_range.Statement.{statement}
 use Rattle.patch.proofs.rest_in_range.Tie as tie

@@ -3,7 +3,7 @@ use mathlib.Core.Path.{ap}
 use Prim.Native.Nat.{_*_, _+_}
 use native.Mathlib.Omega.{arith}
 use Rattle.fields.specs.Fields.{fields, placeOf, searchFrom}
-use Rattle.fields.specs.Columns.{orNone, placeOrNone}
+use Rattle.fields.specs.code.Columns.{orNone, placeOrNone}
 use Rattle.fields.proofs.Places.{place-past}
 use Rattle.fields.proofs.Words.{row-holds, same-holds, beyond}
 use Rattle.fields.proofs.columns.eight_places.Statement.{statement}

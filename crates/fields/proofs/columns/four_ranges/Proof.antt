@@ -2,7 +2,7 @@
 use Prim.Native.Nat.{_*_, _+_}
 use native.Mathlib.Omega.{arith}
 use Rattle.fields.specs.Fields.{fields}
-use Rattle.fields.specs.Columns.{rangeAt}
+use Rattle.fields.specs.code.Columns.{rangeAt}
 use Rattle.fields.proofs.Widths.{range-past}
 use Rattle.fields.proofs.Words.{row-holds, same-holds, beyond}
 use Rattle.fields.proofs.columns.four_ranges.Statement.{statement}

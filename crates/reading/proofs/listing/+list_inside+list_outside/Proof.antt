@@ -14,7 +14,7 @@ use Rattle.frames.specs.Stream.{messageAt}
 use Rattle.frames.specs.Scan.{outside, inside, scan}
 use Rattle.frames.proofs.Handing.{outside-none, outside-found, inside-again, inside-left, inside-cut}
 use Rattle.messages.specs.Judge.{judge}
-use Rattle.reading.specs.Rooms.{numbersOf, width, fitting, Holds}
+use Rattle.reading.specs.code.Rooms.{numbersOf, width, fitting, Holds}
 use Rattle.reading.proofs.Spans.{span-length}
 use Rattle.reading.proofs.Rooms.{lists-full, lists-none, lists-one, lists-more, lists-fits, four-numbers}
 use Rattle.reading.proofs.listing.list_inside.Reads as list-inside

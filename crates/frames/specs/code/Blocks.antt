@@ -4,7 +4,7 @@ use mathlib.Core.List.{List}
 use Prim.Native.Nat.{ℕ, _+_, _<_, _≤_}
 use lib.ListN.{length, drop, getD}
 use Rattle.frames.specs.Bytes.{body, realTimeIn}
-use Rattle.frames.specs.Extent.{ahead}
+use Rattle.frames.specs.code.Extent.{ahead}
 
 -- None of the n bytes from index i on has a property.
 abbrev pub None : (ℕ → Type 0) → ℕ → ℕ → List ℕ → Type 0

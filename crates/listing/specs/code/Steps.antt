@@ -4,7 +4,7 @@ use mathlib.Core.List.{List, [], _++_}
 use Prim.Native.Nat.{ℕ, zero, suc, _-_, _≤_}
 use lib.ListN.{length, take, drop}
 use Rattle.text.specs.Text.{row, Puts}
-use Rattle.listing.specs.Pieces.{leftOf, callsLeft, leastRoom}
+use Rattle.listing.specs.code.Pieces.{leftOf, callsLeft, leastRoom}
 use Rattle.listing.specs.declared.Left.{Left}
 use Rattle.listing.specs.declared.Piece.{Piece}
 

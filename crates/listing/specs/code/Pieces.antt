@@ -8,7 +8,7 @@ use lib.ListN.{length, take, drop}
 use Rattle.frames.specs.Stream.{Report}
 use Rattle.frames.specs.Scan.{outside, scan}
 use Rattle.messages.specs.Judge.{judge}
-use Rattle.reading.specs.Rooms.{width, most as reportsMost}
+use Rattle.reading.specs.code.Rooms.{width, most as reportsMost}
 use Rattle.listing.specs.Listing.{lines, total, listingOf}
 use Rattle.listing.specs.declared.Left.{Left}
 use Rattle.listing.specs.declared.Left.the-variants.{Whole, From, Nothing}
@@ -40,7 +40,7 @@ leastRoom = reportsMost * (width * 21)
 
 -- What a call gives: a piece, at the room's start, the room's other bytes kept. The piece and what is left then are what was left before. In
 -- a room that is long enough fewer calls may follow than before, so that nothing is left in the end.
-pub record Gives (s : List ℕ) (left : Left) (old new : List ℕ) (p : Piece) : Type 0 where
+pub record GivesPiece (s : List ℕ) (left : Left) (old new : List ℕ) (p : Piece) : Type 0 where
   pub piece : List ℕ
   pub text : leftOf s left ≡ piece ++ leftOf s (p .left)
   pub len : p .len ≡ length piece
@@ -57,7 +57,7 @@ pub record Call : Type 0 where
 -- Calls from a state on, each next one from what the last one left, until nothing is left.
 abbrev pub Calls : List ℕ → Left → List Call → Type 0
 Calls s left [] = left ≡ Nothing
-Calls s left (c ∷ cs) = Gives s left (c .old) (c .new) (c .answer) × Calls s (c .answer .left) cs
+Calls s left (c ∷ cs) = GivesPiece s left (c .old) (c .new) (c .answer) × Calls s (c .answer .left) cs
 
 -- What a program writes that hands on each piece: the start of the room after each call.
 abbrev pub joined : List Call → List ℕ

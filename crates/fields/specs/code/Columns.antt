@@ -34,5 +34,5 @@ abbrev pub placeOrNone : ℕ → ℕ
 placeOrNone n = orNone (placeOf n)
 
 -- The number r holds n others of w bits each, the first lowest: those that f gives from k on.
-abbrev pub Holds : ℕ → (ℕ → ℕ) → ℕ → ℕ → ℕ → Type 0
-Holds w f n k r = (j : ℕ) → j < n → r / 2 ^ (w * j) % 2 ^ w ≡ f (k + j)
+abbrev pub InWord : ℕ → (ℕ → ℕ) → ℕ → ℕ → ℕ → Type 0
+InWord w f n k r = (j : ℕ) → j < n → r / 2 ^ (w * j) % 2 ^ w ≡ f (k + j)

@@ -28,5 +28,5 @@ pub record Kept (w old new : List ℕ) (n : ℕ) : Type 0 where
   pub bytes : new ≡ take (length old) w ++ drop (length w) old
 
 -- Where the first F0H at place p or later stands; the input's length, or p past it, where there is none.
-unfoldable pub startFrom : List ℕ → ℕ → ℕ
-startFrom s p = p + ahead (drop p s)
+unfoldable pub startAt : List ℕ → ℕ → ℕ
+startAt s p = p + ahead (drop p s)
