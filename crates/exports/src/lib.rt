@@ -1,6 +1,5 @@
 // The library for C and Rust to link: walk, read, reports, test, lookups, names, both edits, all writers and the bank, each the routine
 // itself with its own contract. A slice passes as a pointer and a length; a struct is returned by value, laid out as C lays it out.
-// Below it: all the other libraries but theorems and cursor.
 use answers::Outcome;
 use fields::BytePlace;
 use fields::FoundParameter;
