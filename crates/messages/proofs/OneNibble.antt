@@ -79,33 +79,43 @@ module _ (k : Dump) (filed : Filed (ofDump k)) (count : ℕ) (any : k .packed �
         (λ z. rw (e₁, e₃, snoc) (q .1 (same-sum p₁ p₂ b c (by-128 (z .1))))),
       )
 
--- What stands before and behind one of the bytes of a message.
-parted : (op n : ℕ) (u : List ℕ) (x : ℕ) (v : List ℕ)
-    → messageOf op (n ∷ (u ++ x ∷ v)) ≡ (0xF0 ∷ 0x10 ∷ 0x06 ∷ op ∷ n ∷ u) ++ x ∷ (v ++ (0xF7 ∷ []))
-parted op n u x v = ap (λ (w : List ℕ). 0xF0 ∷ 0x10 ∷ 0x06 ∷ op ∷ n ∷ w) (append-assoc u (x ∷ v) (0xF7 ∷ []))
+-- The byte x that stands behind the first five bytes of a message and i more, and another in its place.
+module _ (op n : ℕ) (sent u : List ℕ) (x : ℕ) (v : List ℕ) (i : ℕ) (e : sent ≡ u ++ x ∷ v) (before : length u ≡ i) where
+  abbrev start : List ℕ
+  start = 0xF0 ∷ 0x10 ∷ 0x06 ∷ op ∷ n ∷ u
+
+  place : length start ≡ 5 + i
+  place = omega arith
+
+  parted : (y : ℕ) → messageOf op (n ∷ (u ++ y ∷ v)) ≡ start ++ y ∷ (v ++ (0xF7 ∷ []))
+  parted y = ap (λ (w : List ℕ). 0xF0 ∷ 0x10 ∷ 0x06 ∷ op ∷ n ∷ w) (append-assoc u (y ∷ v) (0xF7 ∷ []))
+
+  whole : messageOf op (n ∷ sent) ≡ start ++ x ∷ (v ++ (0xF7 ∷ []))
+  whole = ap (λ (w : List ℕ). messageOf op (n ∷ w)) e ∙ parted x
+
+  there : byteAt (messageOf op (n ∷ sent)) (5 + i) ≡ x
+  there = ap (λ (w : List ℕ). byteAt w (5 + i)) whole ∙ getD-at start x (v ++ (0xF7 ∷ [])) 0 (5 + i) place
+
+  replaced : (y : ℕ) → set (messageOf op (n ∷ sent)) (5 + i) y ≡ messageOf op (n ∷ (u ++ y ∷ v))
+  replaced y = ap (λ (w : List ℕ). set w (5 + i) y) whole ∙ set-at start x (v ++ (0xF7 ∷ [])) y (5 + i) place ∙ sym (parted y)
 
 pub any-bytes-nibble : AnyBytesNibble
 unfolding dump
 any-bytes-nibble k count filed any b p bytes given i y h hy ne =
     let n = behindFor (k .behind) b in
-    let sent = nibbles p ++ (sum p ∷ []) in
-    let l = row-equal 7 (length p) (size k) (given .0) in
     let number = row-silent 8 (misnumbered (k .behind) n) (given .1 .0) in
+    let l = row-equal 7 (length p) (size k) (given .0) in
+    let sent = nibbles p ++ (sum p ∷ []) in
     let inside : i < length sent = omega (arith, length-append (nibbles p) (sum p ∷ []), length-nibbles p) in
     let u = take i sent in
     let x = getD sent i 0 in
     let v = drop (suc i) sent in
-    let e : sent ≡ u ++ x ∷ v = split-at sent i 0 inside in
+    let e = split-at sent i 0 inside in
     let before = length-take-le i sent (omega arith) in
-    let place : length (0xF0 ∷ 0x10 ∷ 0x06 ∷ k .opcode ∷ n ∷ u) ≡ 5 + i = omega arith in
-    let m = ap (λ (w : List ℕ). messageOf (k .opcode) (n ∷ w)) e ∙ parted (k .opcode) n u x v in
-    let there = ap (λ (w : List ℕ). getD w (5 + i) 0) m ∙ getD-at (0xF0 ∷ 0x10 ∷ 0x06 ∷ k .opcode ∷ n ∷ u) x (v ++ (0xF7 ∷ [])) 0 (5 + i) place in
-    let replaced =
-    ap (λ (w : List ℕ). set w (5 + i) y) m
-    ∙ set-at (0xF0 ∷ 0x10 ∷ 0x06 ∷ k .opcode ∷ n ∷ u) x (v ++ (0xF7 ∷ [])) y (5 + i) place
-    ∙ sym (parted (k .opcode) n u y v) in
-    rw (replaced, there)
-    (rw before at (by-position k filed count any n number p l (rw any at bytes) u x v y (position p (sum p) u x v (sym e)) (omega arith) hy (rw there at ne)))
+    let same = there (k .opcode) n sent u x v i e before in
+    let at = position p (sum p) u x v (sym e) in
+    rw (replaced (k .opcode) n sent u x v i e before y, same)
+    (rw before at (by-position k filed count any n number p l (rw any at bytes) u x v y at (omega arith) hy (rw same at ne)))
 
 pub master-nibble : MasterNibble
 unfolding kindOf
