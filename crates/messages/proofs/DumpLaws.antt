@@ -64,7 +64,8 @@ rows-passed k n d s q = record {
 
 module _ (k : Dump) (filed : Filed (ofDump k)) (n : ℕ) where
   dump-judged : (w : List ℕ) (m : List ℕ) → m ≡ messageOf (k .opcode) (n ∷ w)
-      → judge m ≡ first (row 7 (not (eqb (length m) (7 + 2 * size k))) ∷ dumpRows k n (dataOf (size k) m) (sumOf (size k) m)) (dumpRecord k n (packedOf (size k) m))
+      → judge m
+      ≡ first (row 7 (not (eqb (length m) (7 + 2 * size k))) ∷ dumpRows k n (dataOf (size k) m) (sumOf (size k) m)) (dumpRecord k n (packedOf (size k) m))
   unfolding judge
   dump-judged w m e = rw (e, filed, filed-sized (ofDump k) filed .0)
 
@@ -81,7 +82,8 @@ module _ (k : Dump) (filed : Filed (ofDump k)) (n : ℕ) where
   dump-tested d s l =
       let m = messageOf (k .opcode) (n ∷ (d ++ (s ∷ []))) in
       let right : length m ≡ 7 + 2 * size k = omega (arith, message-length (k .opcode) n (d ++ (s ∷ [])), length-append d (s ∷ [])) in
-      rw (dump-judged (d ++ (s ∷ [])) m refl, eq-eqb (length m) (7 + 2 * size k) right, data-of (size k) (k .opcode) n d s l, sum-of (size k) (k .opcode) n d s l)
+      let judged = dump-judged (d ++ (s ∷ [])) m refl in
+      rw (judged, eq-eqb (length m) (7 + 2 * size k) right, data-of (size k) (k .opcode) n d s l, sum-of (size k) (k .opcode) n d s l)
 
   -- A dump as our writer writes it, of bytes that pass its tests, is accepted with these bytes.
   pub dump-accepted : (p : List ℕ) → misnumbered (k .behind) n ≡ false → length p ≡ size k → All (λ b. b < 256) p → Silent (packedRows (k .packed) p)

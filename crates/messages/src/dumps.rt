@@ -23,7 +23,7 @@ ghost use Rattle.frames.specs.Bytes.{framed};
 ghost use Rattle.nibbles.specs.Nibbles.{pack};
 ghost use Rattle.messages.specs.Kinds.{aPatch, ofDump, sizeOf, master, Sized};
 ghost use Rattle.messages.specs.Judge.{kindVerdict, dataRows, packedRows, lentRows, misnumbered, numberIn};
-ghost use Rattle.messages.specs.code.Judged.{judged, Checked, sentIn, sumIn};
+ghost use Rattle.messages.specs.code.Judged.{judged, Checked, checkedRows};
 
 // Where the data bytes of a patch dump end in its content, and its sum stands.
 const PATCH_SENT: usize = 4 + 2 * PATCH;
@@ -84,7 +84,7 @@ fn check_any(sent: &[u8], sum: u8, count: usize, room: &mut [u8]) -> Outcome
 // compiler sees.
 fn check_packed(packed: Packed, content: &[u8]) -> Outcome
     requires { ⌜ (length (now content) ≡ 5 + 2 * sizeOf packed) × (sizeOf packed ≤ master) ⌝ }
-    ensures { λ r. ⌜ r ≡ tested (dataRows (sentIn (sizeOf packed) (now (content .entry))) (sumIn (sizeOf packed) (now (content .entry))) ++ packedRows packed (pack (sentIn (sizeOf packed) (now (content .entry))))) ⌝ }
+    ensures { λ r. ⌜ r ≡ tested (checkedRows packed (now (content .entry))) ⌝ }
 {
     match packed {
         Packed::Patch => check_patch(&content[4..PATCH_SENT], content[PATCH_SENT]),

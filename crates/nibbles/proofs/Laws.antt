@@ -231,7 +231,7 @@ pub data Position (p : List ℕ) (s : ℕ) (u : List ℕ) (x : ℕ) (v : List �
       → u ≡ nibbles p₁ ++ ((b % 16) ∷ []) → x ≡ b / 16 → v ≡ nibbles p₂ ++ (s ∷ []) → Position p s u x v
   at-sum : u ≡ nibbles p → x ≡ s → v ≡ [] → Position p s u x v
 
-no-tail : (u : List ℕ) (x : ℕ) (v : List ℕ) → u ++ x ∷ v ≡ [] → ⊥
+pub no-tail : (u : List ℕ) (x : ℕ) (v : List ℕ) → u ++ x ∷ v ≡ [] → ⊥
 no-tail [] x v e = nil≢cons (sym e)
 no-tail (a ∷ u) x v e = nil≢cons (sym e)
 

@@ -7,7 +7,7 @@ use borrow.Author.Needs.{needs}
 use Rattle.messages.proofs.dumps.check_any.Statement.{statement}
 use Rattle.messages.proofs.dumps.check_any.Tie as tie
 
-fits : (c : tie.After-check-data-arg) → length (take (c .before .before .before .args .count) (c .before .before .before .args .room .now)) ≡ c .before .before .before .args .count
+fits : (c : tie.After-check-data-arg) → let a = c .before .before .before .args in length (take (a .count) (a .room .now)) ≡ a .count
 fits c = let start = c .before .before .before in length-take-le (start .args .count) (start .args .room .now) (start .pre .1)
 
 slice-aggregate-check-data : tie.Need-slice-aggregate-check-data
