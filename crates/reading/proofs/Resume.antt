@@ -78,7 +78,8 @@ pub next-within : (s : List ℕ) (p : ℕ) (room : List ℕ) → p ≤ length s
 next-within s p room h =
     let m = most-of s p room in
     let whole : p + length (drop p s) ≡ length s = omega (arith, length-drop p s) in
-    rw (m .taken) (order-end (take (m .number) (from s p)) p (length s) h (order-take (m .number) (from s p) p (length s) (rw whole at (scan-order judge (drop p s) p))))
+    let order = order-take (m .number) (from s p) p (length s) (rw whole at (scan-order judge (drop p s) p)) in
+    rw (m .taken) (order-end (take (m .number) (from s p)) p (length s) h order)
 
 -- Past the input there is no report.
 none-past : (s : List ℕ) (p : ℕ) → length s ≤ p → from s p ≡ []

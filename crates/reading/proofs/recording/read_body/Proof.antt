@@ -20,7 +20,9 @@ kept-length c = let at = c .before .before in sym (length-take-le (at .keep .res
 
 returns-2 : tie.Need-returns-2
 returns-2 c =
-    rw (c .before .before .before .before .before .before .keep .ensures .bytes, judge-first (withoutRealTime (c .before .before .before .before .before .before .before .before .before .before .before .args .body .now))) at (c .before .before .read-content2 .ensures)
+    let at = c .before .before .before .before .before .before in
+    let body = at .before .before .before .before .before .args .body .now in
+    rw (at .keep .ensures .bytes, judge-first (withoutRealTime body)) at (c .before .before .read-content2 .ensures)
 
 pub read-body-spec : {M : Type 1} → statement M
 read-body-spec =
