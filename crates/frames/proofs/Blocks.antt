@@ -11,7 +11,6 @@ use lib.ListN.{length, drop, getD}
 use borrow.Author.Tests.{eqb-false}
 use borrow.Author.Count.{below-more}
 use Rattle.frames.specs.Bytes.{body, realTimeIn}
-use Rattle.frames.specs.code.Extent.{ahead}
 use Rattle.frames.specs.code.Blocks.{None, Ahead, Onward}
 use Rattle.frames.proofs.Extent.{ahead-other, body-data, real-time-data}
 

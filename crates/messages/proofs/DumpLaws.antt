@@ -1,20 +1,19 @@
 -- What a dump of each kind comes to: which bytes are its data and its sum, and that it is tested by its length, its number, its data and its sum.
 -- From that, the dump that our writer writes is accepted, and a dump of another length is refused by 7.
 use mathlib.Core.Path.{_≡_, refl, sym, _∙_}
-use mathlib.Core.Bool.{Bool, false, not}
+use mathlib.Core.Bool.{false, not}
 use mathlib.Core.List.{List, [], _∷_, _++_, append-assoc}
 use Prim.Native.Nat.{ℕ, _+_, _*_, _<_}
 use native.Mathlib.Omega.{arith}
-use lib.Dec.{eqb, ltb}
+use lib.Dec.{eqb}
 use lib.ListN.{length, length-append}
 use lib.Seq.{take-at, getD-at, getD-drop}
 use borrow.Author.Tests.{eq-eqb, ne-eqb}
 use Rattle.answers.specs.Lists.{All}
-use Rattle.answers.specs.Table.{Row, row, rowAt, Verdict, done, refused, first, outcome, answerOf, Silent}
+use Rattle.answers.specs.Table.{row, Verdict, done, refused, first, outcome, answerOf, Silent}
 use Rattle.answers.proofs.Rows.{Refusals, first-passed, zero-silent, row-silent, row-at-silent, row-equal}
 use Rattle.nibbles.specs.Nibbles.{nibbles, pack, sum, firstWide}
 use Rattle.nibbles.proofs.Laws.{length-nibbles, pack-nibbles, nibbles-narrow, not-wide, wide-none}
-use Rattle.patch.specs.Patch.{fieldRows}
 use Rattle.messages.specs.Kinds.{Dump, ofDump, Filed, sizeOf}
 use Rattle.messages.specs.Judge.{dataOf, packedOf, sumOf, dataRows, misnumbered, numberIn, packedRows, dumpRows, judge}
 use Rattle.messages.specs.Layout.{messageOf, dump}

@@ -18,7 +18,7 @@ use Rattle.nibbles.proofs.Laws.{length-nibbles, nibbles-narrow, not-wide, total
 use Rattle.nibbles.proofs.Laws.{Position, at-low, at-high, at-sum, position}
 use Rattle.messages.specs.Kinds.{anyBytes, Dump, ofDump, masterParameters, master, Filed, kindOf}
 use Rattle.messages.specs.Judge.{dataRows, misnumbered, byteAt, judge}
-use Rattle.messages.specs.Layout.{messageOf, dump, behindFor, message}
+use Rattle.messages.specs.Layout.{messageOf, dump, behindFor}
 use Rattle.messages.specs.OneNibble.{AnyBytesNibble, MasterNibble}
 use Rattle.messages.proofs.DumpLaws.{size, dump-tested, dump-passed}
 

@@ -1,6 +1,6 @@
 -- A patch dump one data byte of which, or the sum, is replaced by another data byte is refused; and so is a message that is the end of a dump's data.
 -- The sum misses only a high nibble that moved by 8; its byte then moved by 128, and no field accepts both.
-use mathlib.Core.Path.{_≡_, refl, sym, ap, _∙_}
+use mathlib.Core.Path.{_≡_, sym, ap, _∙_}
 use mathlib.Core.List.{List, [], _∷_, _++_, append-assoc, tail-eq-of-cons-eq}
 use mathlib.Core.Logic.{⊎-elim}
 use mathlib.Core.Option.{none}

@@ -8,7 +8,7 @@ use native.Mathlib.Decide.{decLe}
 use native.Mathlib.Omega.{arith}
 use lib.ListN.{length, take, drop, length-append, length-drop, drop-of-length-le}
 use lib.Seq.{take-nil, take-all, take-take, drop-drop}
-use Rattle.frames.specs.Stream.{Report, reports}
+use Rattle.frames.specs.Stream.{Report}
 use Rattle.frames.specs.Scan.{outside, scan}
 use Rattle.frames.specs.Order.{InOrder}
 use Rattle.frames.proofs.Walk.{Walked, nothing, message, walked, reports-scan, scan-order}

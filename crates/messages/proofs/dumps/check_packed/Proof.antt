@@ -1,5 +1,5 @@
 -- `check_packed` checks a patch at its places, and other bytes at theirs by their count.
-use mathlib.Core.Path.{_≡_, _∙_}
+use mathlib.Core.Path.{_≡_}
 use mathlib.Core.List.{append-nil}
 use Prim.Native.Nat.{_+_, _-_, _*_}
 use native.Mathlib.Omega.{arith}

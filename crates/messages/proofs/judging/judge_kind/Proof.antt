@@ -1,7 +1,7 @@
 -- `judge_kind` judges by the kind that the opcode finds, which has the length that its parts add up to.
-use mathlib.Core.Path.{_≡_, _∙_, sym, subst}
+use mathlib.Core.Path.{_∙_, sym, subst}
 use borrow.Author.Needs.{needs}
-use Rattle.messages.specs.Kinds.{Kind, ofDump, ofShort, kindOf, Sized}
+use Rattle.messages.specs.Kinds.{Sized}
 use Rattle.messages.specs.Judge.{kindVerdict}
 use Rattle.messages.proofs.Filed.{kind-sized}
 use Rattle.messages.proofs.judging.judge_kind.Statement.{statement}

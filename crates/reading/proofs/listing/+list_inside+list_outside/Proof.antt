@@ -1,20 +1,20 @@
 -- The two states list the reports of the scan: each call hands on a shorter rest. From outside the scan goes on at the next F0H; from
 -- inside it gives the message, then goes on behind the byte that ended it. The room taken by a report is handed on with the rest.
 use mathlib.Core.Path.{_≡_, refl, ap, _∙_}
-use mathlib.Core.List.{List, [], _∷_, _++_}
-use Prim.Native.Nat.{ℕ, suc, _+_, _-_, _<_, _≤_}
+use mathlib.Core.List.{List, [], _++_}
+use Prim.Native.Nat.{ℕ, suc, _+_, _<_, _≤_}
 use native.Mathlib.Omega.{arith}
-use lib.ListN.{length, take, drop}
+use lib.ListN.{length, drop}
 use borrow.Author.Needs.{needs}
 use borrow.Fn.Kinds.{In}
 use borrow.Fn.PlainCycle.{Measures, is, falls, and}
 use Rattle.answers.proofs.Lists.{to-end}
 use Rattle.frames.specs.Bytes.{body}
 use Rattle.frames.specs.Stream.{Report, messageAt}
-use Rattle.frames.specs.Scan.{State, outside, inside, scan}
+use Rattle.frames.specs.Scan.{outside, inside}
 use Rattle.frames.proofs.Handing.{outside-none, outside-found, inside-again, inside-left, inside-cut}
 use Rattle.messages.specs.Judge.{judge}
-use Rattle.reading.specs.code.Rooms.{numbersOf, width, fitting, Holds}
+use Rattle.reading.specs.code.Rooms.{numbersOf, width}
 use Rattle.reading.proofs.Spans.{span-length}
 use Rattle.reading.proofs.Rooms.{lists-full, lists-none, lists-one, PartHolds, part-fits, lists-on, four-numbers}
 use Rattle.reading.proofs.listing.list_inside.Reads as list-inside
