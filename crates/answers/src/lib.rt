@@ -1,5 +1,4 @@
 // The register's numbers, and the answer of a routine that has no place of its own.
-// Nothing stands below this crate.
 ghost use mathlib.Core.Path.{_≡_};
 ghost use Rattle.answers.specs.Table.{outcome};
 

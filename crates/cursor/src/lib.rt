@@ -1,6 +1,6 @@
 // Nothing but the input and its place: a struct that holds both, with thin functions over the walk and over reading a record.
 // Each takes the struct apart and calls the routine on the slice and the number. `report_from` and `read_from` have plain
-// parameters: whoever calls them needs no struct. Below it: reading, and what stands below that.
+// parameters: whoever calls them needs no struct.
 use reading::recording::Reading;
 use reading::walking::Report;
 ghost use mathlib.Core.Path.{_≡_};

@@ -1,5 +1,4 @@
 // The two edits: their tests, which reading, writing and applying share, and applying one to a lent patch.
-// Below it: answers, fields, patch.
 use answers::DONE;
 use answers::HALF_USED;
 use answers::NOT_ALLOWED;

@@ -1,6 +1,5 @@
 // The library for C and Rust to link: walk, read, reports, test, lookups, names, both edits, all writers and the bank, each the routine
 // itself with its own contract. A slice passes as a pointer and a length; a struct is returned by value, laid out as C lays it out.
-// Below it: all the other libraries but theorems and cursor.
 use answers::Outcome;
 use fields::BytePlace;
 use fields::FoundParameter;
@@ -56,7 +55,12 @@ pub extern "C" fn matrix_reports(s: &[u8], place: usize, room: &mut [usize]) -> 
 pub extern "C" fn matrix_test_patch(p: &[u8]) -> Outcome
     ensures { λ r. ⌜ r ≡ tested (patchRows (now (p .entry))) ⌝ }
 {
-    patch::test(p)
+    // Field by field, so that the answer goes by a register and not through memory; so below.
+    let tested = patch::test(p);
+    Outcome {
+        answer: tested.answer,
+        detail: tested.detail,
+    }
 }
 
 // The byte place of a parameter, 255 where it has none.
@@ -102,7 +106,11 @@ pub extern "C" fn matrix_show_name(p: &[u8], out: &mut [u8]) -> Outcome
 pub extern "C" fn matrix_apply_edit(p: &mut [u8], parameter: u8, value: u8) -> Outcome
     ensures { λ r. ⌜ Gives (applying parameter value (now (p .entry))) r (now (p .exit)) ⌝ }
 {
-    edits::apply_edit(p, Parameter(parameter), value)
+    let edited = edits::apply_edit(p, Parameter(parameter), value);
+    Outcome {
+        answer: edited.answer,
+        detail: edited.detail,
+    }
 }
 
 // Applies a matrix modulation edit to a patch.
@@ -116,7 +124,11 @@ pub extern "C" fn matrix_apply_bus_edit(
 ) -> Outcome
     ensures { λ r. ⌜ Gives (applyingBus bus source amount destination (now (p .entry))) r (now (p .exit)) ⌝ }
 {
-    edits::apply_bus_edit(p, bus, source, amount, destination)
+    let edited = edits::apply_bus_edit(p, bus, source, amount, destination);
+    Outcome {
+        answer: edited.answer,
+        detail: edited.detail,
+    }
 }
 
 // Writes a numbered patch.

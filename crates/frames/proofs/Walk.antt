@@ -244,4 +244,4 @@ module _ (judge : List ℕ → Verdict) where
 
   -- What holds of the reports of every stream.
   pub reports-of : (s : List ℕ) → ReportsOf judge s
-  reports-of s = record { by-states = reports-scan s; in-order = reports-order s; found-again = reread s }
+  reports-of s = record { by-states = λ p. reportsFrom-scan s (length s) p (omega arith); in-order = reports-order s; found-again = reread s }

@@ -1,5 +1,4 @@
 // Finding system exclusive messages in a stream of bytes: where one starts, how far it runs, its bytes without real time.
-// Below it: answers.
 use answers::CUT;
 use answers::DONE;
 use answers::INTERRUPTED;

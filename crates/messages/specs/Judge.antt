@@ -44,9 +44,13 @@ abbrev pub packedRows : Packed → List ℕ → List Row
 packedRows aPatch p = fieldRows p
 packedRows (anyBytes count) p = []
 
--- The tests of a dump behind its length: the byte n behind its opcode, the data bytes d, the sum s.
+-- The tests of a dump's data bytes d, of the sum s behind them, and of what they pack to.
+abbrev pub sentRows : Packed → List ℕ → ℕ → List Row
+sentRows q d s = dataRows d s ++ packedRows q (pack d)
+
+-- The tests of a dump behind its length: the byte n behind its opcode, then these.
 abbrev pub dumpRows : Dump → ℕ → List ℕ → ℕ → List Row
-dumpRows k n d s = row 8 (misnumbered (k .behind) n) ∷ (dataRows d s ++ packedRows (k .packed) (pack d))
+dumpRows k n d s = row 8 (misnumbered (k .behind) n) ∷ sentRows (k .packed) d s
 
 -- The tests of a short message's bytes: an edit's own.
 abbrev pub operandRows : Operands → List ℕ → List Row

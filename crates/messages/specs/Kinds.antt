@@ -70,7 +70,7 @@ among (k ∷ ks) opcode = cond (eqb opcode (opcodeOf k)) k (among ks opcode)
 unfoldable pub kindOf : ℕ → Kind
 kindOf opcode = among kinds opcode
 
--- It is one of them: its opcode finds it.
+-- It is one of them, or unknown: its opcode finds it.
 abbrev pub Filed : Kind → Type 0
 Filed k = kindOf (opcodeOf k) ≡ k
 

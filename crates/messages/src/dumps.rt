@@ -8,22 +8,21 @@ use crate::kinds::Dump;
 use crate::kinds::MASTER;
 use crate::kinds::PATCH;
 use crate::kinds::Packed;
+use crate::kinds::size_of;
 use answers::DONE;
 use answers::NOT_ALLOWED;
 use answers::Outcome;
 use answers::WRONG_LENGTH;
 use answers::WRONG_SUM;
 ghost use mathlib.Core.Path.{_≡_};
-ghost use mathlib.Core.List.{_++_};
 ghost use Prim.Native.Nat.{_+_, _*_, _≤_};
 ghost use lib.ListN.{length, getD};
 ghost use Rattle.answers.specs.Effect.{tested};
 ghost use Rattle.fields.specs.Fields.{size};
 ghost use Rattle.frames.specs.Bytes.{framed};
-ghost use Rattle.nibbles.specs.Nibbles.{pack};
 ghost use Rattle.messages.specs.Kinds.{aPatch, ofDump, sizeOf, master, Sized};
-ghost use Rattle.messages.specs.Judge.{kindVerdict, dataRows, packedRows, lentRows, misnumbered, numberIn};
-ghost use Rattle.messages.specs.code.Judged.{judged, Checked, checkedRows};
+ghost use Rattle.messages.specs.Judge.{kindVerdict, sentRows, lentRows, misnumbered, numberIn};
+ghost use Rattle.messages.specs.code.Judged.{judged, Checked, sentIn, sumIn};
 
 // Where the data bytes of a patch dump end in its content, and its sum stands.
 const PATCH_SENT: usize = 4 + 2 * PATCH;
@@ -59,41 +58,43 @@ pub fn test_packed(packed: Packed, bytes: &[u8]) -> Outcome
     }
 }
 
-// The data of a patch, and its fields: 9 to 12. The caller below has seen the length.
+// The data of a patch, and its fields: 9 to 12, by numbers that the compiler sees. The caller below has seen the length.
 fn check_patch(sent: &[u8], sum: u8) -> Outcome
     requires { ⌜ length (now sent) ≡ 2 * size ⌝ }
-    ensures { λ r. ⌜ r ≡ tested (dataRows (now (sent .entry)) sum ++ packedRows aPatch (pack (now (sent .entry)))) ⌝ }
+    ensures { λ r. ⌜ r ≡ tested (sentRows aPatch (now (sent .entry)) sum) ⌝ }
 {
     let mut packed = [0u8; PATCH];
-    let d = check_data(sent, sum, &mut packed);
-    if d.answer != DONE {
-        return d;
+    let data = check_data(sent, sum, &mut packed);
+    if data.answer != DONE {
+        return data;
     }
     patch::test(&packed)
 }
 
-// The data of so many bytes of any value: 9, 10. The caller below has seen the length, and lends a room for the packed bytes.
-fn check_any(sent: &[u8], sum: u8, count: usize, room: &mut [u8]) -> Outcome
-    requires { ⌜ (length (now sent) ≡ 2 * count) × (count ≤ length (now room)) ⌝ }
-    ensures { λ r. ⌜ r ≡ tested (dataRows (now (sent .entry)) sum) ⌝ }
+// The data of any packed bytes, and their own tests, in a room that fits them. The caller below has seen the length.
+fn check_room(packed: Packed, sent: &[u8], sum: u8, room: &mut [u8]) -> Outcome
+    requires { ⌜ (length (now sent) ≡ 2 * length (now room)) × (length (now room) ≡ sizeOf packed) ⌝ }
+    ensures { λ r. ⌜ r ≡ tested (sentRows packed (now (sent .entry)) sum) ⌝ }
 {
-    check_data(sent, sum, &mut room[..count])
+    let data = check_data(sent, sum, room);
+    if data.answer != DONE {
+        return data;
+    }
+    test_packed(packed, room)
 }
 
-// The data and the packed bytes of a dump: 9 to 12. The caller below has seen the length. A patch goes by numbers that the
-// compiler sees.
+// The data and the packed bytes of a dump: 9 to 12. The caller below has seen the length.
 fn check_packed(packed: Packed, content: &[u8]) -> Outcome
     requires { ⌜ (length (now content) ≡ 5 + 2 * sizeOf packed) × (sizeOf packed ≤ master) ⌝ }
-    ensures { λ r. ⌜ r ≡ tested (checkedRows packed (now (content .entry))) ⌝ }
+    ensures { λ r. ⌜ r ≡ tested (sentRows packed (sentIn (sizeOf packed) (now (content .entry))) (sumIn (sizeOf packed) (now (content .entry)))) ⌝ }
 {
-    match packed {
-        Packed::Patch => check_patch(&content[4..PATCH_SENT], content[PATCH_SENT]),
-        Packed::AnyBytes(count) => {
-            let mut room = [0u8; MASTER];
-            let end = 4 + 2 * count;
-            check_any(&content[4..end], content[end], count, &mut room)
-        }
+    if let Packed::Patch = packed {
+        return check_patch(&content[4..PATCH_SENT], content[PATCH_SENT]);
     }
+    let count = size_of(packed);
+    let end = 4 + 2 * count;
+    let mut room = [0u8; MASTER];
+    check_room(packed, &content[4..end], content[end], &mut room[..count])
 }
 
 // The byte behind a dump's opcode does not pass.

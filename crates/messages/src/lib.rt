@@ -1,5 +1,4 @@
 // The kinds of message that the desk files, and what a complete message comes to.
-// Below it: answers, frames, nibbles, patch, edits.
 pub mod dumps;
 pub mod judging;
 pub mod kinds;

@@ -1,5 +1,4 @@
 // A patch's name: its bytes 0-7, shown and set as eight characters of 32..95.
-// Below it: answers, fields, patch.
 use answers::DONE;
 use answers::NO_ROOM;
 use answers::NOT_ALLOWED;

@@ -6,7 +6,7 @@ use Prim.Native.Nat.{ℕ, suc, _+_, _*_, _/_, _%_}
 use lib.Dec.{eqb, ltb}
 use lib.ListN.{length}
 use Rattle.answers.specs.declared.Outcome.{Outcome}
-use Rattle.answers.specs.Table.{row, rowAt}
+use Rattle.answers.specs.Table.{Row, row, rowAt}
 use Rattle.answers.specs.Effect.{Effect, written}
 
 -- Each byte is sent as its remainder by 16, then its quotient by 16.
@@ -36,9 +36,13 @@ wideFrom i (b ∷ bs) = cond (ltb 15 b) (some i) (wideFrom (suc i) bs)
 abbrev pub firstWide : List ℕ → Option ℕ
 firstWide = wideFrom 0
 
--- Packing into a lent output: an odd number of nibbles is 7, a byte above 15 is 9.
+-- The tests of nibbles to pack: an odd number of them is 7, a byte above 15 is 9.
+abbrev pub nibbleRows : List ℕ → List Row
+nibbleRows ns = row 7 (eqb (length ns % 2) 1) ∷ rowAt 9 (firstWide ns) ∷ []
+
+-- Packing into a lent output.
 unfoldable pub packing : List ℕ → List ℕ → Effect Outcome
-packing ns out = written (row 7 (eqb (length ns % 2) 1) ∷ rowAt 9 (firstWide ns) ∷ []) (pack ns) out
+packing ns out = written (nibbleRows ns) (pack ns) out
 
 -- Unpacking into a lent output.
 unfoldable pub unpacking : List ℕ → List ℕ → Effect Outcome

@@ -1,5 +1,4 @@
 // Nibbles, packed bytes and the checksum, over any length: shared by every kind of dump.
-// Below it: answers.
 use answers::NO_ROOM;
 use answers::Outcome;
 use answers::WIDE_DATA;

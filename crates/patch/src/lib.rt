@@ -1,5 +1,4 @@
 // The tests of a patch: 7, then 11 with the lowest place, then 12 with the lowest bus.
-// Below it: answers, fields.
 use answers::HALF_USED;
 use answers::OUT_OF_RANGE;
 use answers::Outcome;

@@ -8,6 +8,7 @@ use native.Mathlib.Decide.{decLe}
 use native.Mathlib.Omega.{arith}
 use lib.ListN.{length, take, drop, length-append, length-drop, drop-of-length-le}
 use lib.Seq.{take-nil, take-all, take-take, drop-drop}
+use Rattle.answers.specs.Lists.{All}
 use Rattle.frames.specs.Stream.{Report}
 use Rattle.frames.specs.Scan.{outside, scan}
 use Rattle.frames.specs.Order.{InOrder}
@@ -112,28 +113,30 @@ all-made s p room h =
     by-number (suc n) [] k e = refl
     by-number (suc n) (r ∷ l) k e = cc
 
-module _ (s room : List ℕ) (h : width ≤ length room) where
+module _ (s : List ℕ) where
   -- Where no report is left, no call makes one.
-  calls-none : (n p : ℕ) → scan judge p outside (drop p s) ≡ [] → reportsByCalls n s p room ≡ []
+  calls-none : (rooms : List (List ℕ)) (p : ℕ) → All (λ room. width ≤ length room) rooms → scan judge p outside (drop p s) ≡ []
+      → reportsByCalls s p rooms ≡ []
   unfolding endOf
-  calls-none zero p e = refl
-  calls-none (suc n) p e = rw (all-made s p room h .1 e) (calls-none n p e)
+  calls-none [] p h e = refl
+  calls-none (room ∷ rooms) p h e = rw (all-made s p room (h .0) .1 e) (calls-none rooms p (h .1) e)
 
   -- Calls from a place on, as many as there are bytes left, make the reports from there on.
-  pub calls-scan : (n p : ℕ) → length s ≤ n + p → reportsByCalls n s p room ≡ scan judge p outside (drop p s)
-  calls-scan zero p k = sym (none-past s p (omega arith))
-  calls-scan (suc n) p k = by-made (made s p room) refl (calls-scan n)
+  calls-scan : (rooms : List (List ℕ)) (p : ℕ) → All (λ room. width ≤ length room) rooms → length s ≤ length rooms + p
+      → reportsByCalls s p rooms ≡ scan judge p outside (drop p s)
+  calls-scan [] p h k = sym (none-past s p (omega arith))
+  calls-scan (room ∷ rooms) p h k = by-made (made s p room) refl (λ q. calls-scan rooms q (h .1))
     where
-      by-made : (l : List Report) → made s p room ≡ l → ((q : ℕ) → length s ≤ n + q → reportsByCalls n s q room ≡ scan judge q outside (drop q s))
-          → reportsByCalls (suc n) s p room ≡ scan judge p outside (drop p s)
-      by-made [] e i = let none = all-made s p room h .0 e in calls-none (suc n) p none ∙ sym none
+      by-made : (l : List Report) → made s p room ≡ l → ((q : ℕ) → length s ≤ length rooms + q → reportsByCalls s q rooms ≡ scan judge q outside (drop q s))
+          → reportsByCalls s p (room ∷ rooms) ≡ scan judge p outside (drop p s)
+      by-made [] e i = let none = all-made s p room (h .0) .0 e in calls-none (room ∷ rooms) p h none ∙ sym none
       by-made (r ∷ l) e i =
           let grows = next-grows s p room (λ z. let c : _≡_ {A = List Report} (r ∷ l) [] = sym e ∙ z in let x : _≡_ {A = ℕ} 0 1 = cc in omega arith) in
           ap (λ (w : List Report). made s p room ++ w) (i (endOf p (made s p room)) (omega arith)) ∙ sym (resume s p room)
 
 -- Calls from 0 on, each from the end of the last, make the reports of the stream.
 pub calls-reports : CallsMakeReports
-calls-reports s room h n k = calls-scan s room h n 0 (omega arith) ∙ sym (reports-scan judge s)
+calls-reports s rooms h k = calls-scan s rooms 0 h (omega arith) ∙ sym (reports-scan judge s)
 
 -- What a caller knows of a call from a place of the input: it goes on a byte or more for each report, within the input; the reports fit
 -- the room; those left are left from its end on; and with room for one, a call that makes none leaves none.

@@ -1,5 +1,5 @@
 // Prints the field table, a line for each byte of a patch: place, parameter, least and greatest value.
-// Every number is asked of the patch crate's lookups.
+// Every number is asked of the fields crate's lookups.
 use fields::BytePlace;
 use fields::FoundParameter;
 use libc::STDOUT_FILENO;

@@ -5,23 +5,25 @@ use mathlib.Core.Bool.{Bool, true, false, not, _||_}
 use mathlib.Core.List.{List, [], _∷_, _++_, map}
 use mathlib.Core.Logic.{_⊎_, inl, inr, ⊎-elim}
 use mathlib.Core.Option.{Option, none, some}
-use Prim.Native.Nat.{ℕ, zero, suc, _+_, _*_, _/_, _%_}
+use Prim.Native.Nat.{ℕ, zero, suc, _+_, _*_, _/_, _%_, _<_, _≤_}
+use native.Mathlib.Decide.{decLe}
 use native.Mathlib.Omega.{arith}
 use lib.Dec.{eqb, leb, ltb}
 use lib.ListN.{length, take, drop, length-map, length-set, drop-of-length-le}
-use lib.Seq.{drop-at, drop-append-seam}
+use lib.Seq.{drop-at, drop-append-seam, drop-drop}
 use borrow.Author.Tests.{eqb-true, leb-true, leb-false, le-ltb, lt-ltb}
 use Rattle.answers.specs.declared.Outcome.{Outcome}
 use Rattle.answers.specs.Lists.{All}
 use Rattle.answers.specs.Table.{Row, row, says, Verdict, done, refused, first, outcome, outcomeOf, four, Silent}
 use Rattle.answers.specs.Effect.{Effect, tested, changed, written, Keeps, Decides}
 use Rattle.answers.proofs.Lists.{all-append, all-weaken}
-use Rattle.answers.proofs.Rows.{Refusals, numberOf, Heard, nothing, something, heard, first-append, first-passed, passed-over, done-passed, given-first, first-given, row-equal, decides}
+use Rattle.answers.proofs.Rows.{Refusals, numberOf, Heard, nothing, something, heard, first-append, first-passed, passed-over, done-passed, given-first, first-given, row-equal, first-number, tested-passed, decides}
 use Rattle.answers.proofs.Effects.{changed-decides, changed-keeps, written-decides, written-keeps}
 use Rattle.frames.specs.Bytes.{body}
 use Rattle.frames.specs.Stream.{Report, Reading, packedIn, readInto, readReport, messageAt, firstFrom, walk, read, reports}
 use Rattle.frames.proofs.Walk.{reread}
 use Rattle.frames.proofs.Lent.{reading-keeps}
+use Rattle.nibbles.specs.Nibbles.{nibbles, pack, nibbleRows, packing, unpacking}
 use Rattle.patch.specs.Patch.{fieldRows, patchRows}
 use Rattle.patch.proofs.Tests.{field-refusals, patch-refusals}
 use Rattle.names.specs.Names.{stored, shown, nameRows, naming, showing}
@@ -35,7 +37,7 @@ use Rattle.messages.proofs.Numbers.{IsDone, made, record-done, message-refusals
 use Rattle.reading.specs.code.Told.{reportOr, walked, reads}
 use Rattle.writing.specs.declared.BankOutcome.{BankOutcome}
 use Rattle.writing.specs.Writing.{writing, writingBank, bankFrom, firstBad, orLater, unlessBad}
-use Rattle.theorems.specs.Answers.{fromStart, isEmpty, found, complete, recordIn, opcodeIn, walkRows, thenRoom, Answered, patchesRows, bankBytes, bankTable, Demand1}
+use Rattle.theorems.specs.Answers.{fromStart, isEmpty, found, complete, recordIn, opcodeIn, walkRows, thenRoom, Answered, patchesRows, bankBytes, bankTable, patchAt, PlaceOf, refused-patch, no-patch, Demand1}
 
 -- The walk finds nothing, and the first row says so; or it finds a message, and its verdict is that of the rows.
 data Found (s : List ℕ) (place : ℕ) : Type 0 where
@@ -98,6 +100,33 @@ nothing-found l e = rw e
 
 nothing-room : (l : List ℕ) (n : ℕ) (lent : List ℕ) (v : Verdict) → l ≡ [] → first (thenRoom (walkRows l) n lent) v ≡ refused (outcome 1 0)
 nothing-room l n lent v e = rw e
+
+-- There, start and end are the input's length; and a record is read where the walk finds its message.
+not-found : (s : List ℕ) (place : ℕ) → found s place ≡ [] → (walked s place .start ≡ length s) × (walked s place .end ≡ length s)
+unfolding walk
+not-found s place n = go (start (drop place s) place)
+  where
+    go : Start (drop place s) place → (walked s place .start ≡ length s) × (walked s place .end ≡ length s)
+    go (none-there e₁ e₂) = rw e₂ (refl, refl)
+    go (starts f t e₁ e₂) = let z : _≡_ {A = List ℕ} [] (0xF0 ∷ t) = sym n ∙ e₁ in let x : _≡_ {A = ℕ} 0 1 = cc in absurd (omega arith)
+
+read-there : (s : List ℕ) (place : ℕ) (lent : List ℕ)
+    → let r = reads s place lent .result .report in (r .start ≡ walked s place .start) × (r .end ≡ walked s place .end)
+unfolding read
+read-there s place lent = by-walk (walk judge s place)
+  where
+    into : (f e : ℕ) (v : Verdict) → let r = readInto f e v lent .result in (r .start ≡ f) × (r .end ≡ e)
+    into f e (refused o) = (refl, refl)
+    into f e (done o b p) = by-room (leb (length p) (length lent)) refl
+      where
+        by-room : (t : Bool) → leb (length p) (length lent) ≡ t → let r = readInto f e (done o b p) lent .result in (r .start ≡ f) × (r .end ≡ e)
+        by-room true q = rw q (refl, refl)
+        by-room false q = rw q (refl, refl)
+
+    by-walk : (o : Option Report)
+        → let r = readReport judge (length s) o lent .result in (r .start ≡ reportOr (length s) o .start) × (r .end ≡ reportOr (length s) o .end)
+    by-walk none = (refl, refl)
+    by-walk (some r) = into (r .start) (r .end) (r .verdict)
 
 walk-outcome : (s : List ℕ) (place : ℕ) → walked s place .outcome ≡ outcomeOf (first (walkRows (found s place)) (recordIn (found s place)))
 walk-outcome s place = go (finds s place)
@@ -329,9 +358,55 @@ module _ (ps out : List ℕ) where
       (omega arith, both (patchesRows (length ps / 134) ps) room (bank-refusals (length ps / 134) ps) (omega arith)) in
       record { decides = decides (bankTable ps out) (length bytes) [] [] _ a (told .outcome-told); keeps = told .kept }
 
+-- The lowest bad patch of a bank, among those from number k on, where those before it pass.
+module _ (ps : List ℕ) where
+  abbrev Passes : ℕ → Type 0
+  Passes k = tested (fieldRows (patchAt k ps)) ≡ outcome 0 0
+
+  one-more : (k : ℕ) → ((j : ℕ) → j < k → Passes j) → Passes k → (j : ℕ) → j < suc k → Passes j
+  one-more k h p j l = by-place (decLe (suc j) k)
+    where
+      by-place : Dec (suc j ≤ k) → Passes j
+      by-place (yes m) = h j m
+      by-place (no m) = let e : j ≡ k = omega (arith, m) in rw e p
+
+  bad-place : (n k : ℕ) (b : BankOutcome) → firstBad n k (drop (k * 134) ps) ≡ some b → ((j : ℕ) → j < k → Passes j) → PlaceOf ps b
+  unfolding firstBad
+  bad-place zero k b e h = let z : _≡_ {A = ℕ} 0 1 = cc in absurd (omega arith)
+  bad-place (suc n) k b e h = go (first (fieldRows (patchAt k ps)) (done 0 [] [])) refl e (bad-place n (suc k) b)
+    where
+      next : drop 134 (drop (k * 134) ps) ≡ drop (suc k * 134) ps
+      next = let m : k * 134 + 134 ≡ suc k * 134 = omega arith in drop-drop 134 (k * 134) ps ∙ rw m
+
+      go : (v : Verdict) → first (fieldRows (patchAt k ps)) (done 0 [] []) ≡ v → orLater k v (firstBad n (suc k) (drop 134 (drop (k * 134) ps))) ≡ some b
+          → (firstBad n (suc k) (drop (suc k * 134) ps) ≡ some b → ((j : ℕ) → j < suc k → Passes j) → PlaceOf ps b) → PlaceOf ps b
+      go (done o c p) q e i =
+          i (rw next at e) (one-more k h (tested-passed (fieldRows (patchAt k ps)) (done-passed (fieldRows (patchAt k ps)) (done 0 [] []) o c p q .0)))
+      go (refused r) q e i =
+          let same : record { outcome = r; place = k } ≡ b = cc in
+          let rows = fieldRows (patchAt k ps) in
+          let is-refused : r .answer ≡ 0 → ⊥ = first-number (λ n. n ≡ 0 → ⊥) rows 0 [] [] r (field-refusals (patchAt k ps)) q in
+          subst (PlaceOf ps) same (refused-patch (sym (ap outcomeOf q)) is-refused h)
+
+  by-bank : (out : List ℕ) (o : Option BankOutcome) → firstBad (length ps / 134) 0 ps ≡ o → PlaceOf ps (unlessBad o (bankBytes ps) out .result)
+  by-bank out (some b) e = bad-place (length ps / 134) 0 b e (λ j l. absurd (omega arith))
+  by-bank out none e = by-room (ltb (length out) (length (bankBytes ps))) refl
+    where
+      by-room : (t : Bool) → ltb (length out) (length (bankBytes ps)) ≡ t → PlaceOf ps (unlessBad none (bankBytes ps) out .result)
+      by-room true q = rw q (no-patch refl (inr (inr refl)))
+      by-room false q = rw q (no-patch refl (inl refl))
+
+  bank-place : (out : List ℕ) → PlaceOf ps (writingBank ps out .result)
+  unfolding writingBank
+  bank-place out = by-length (not (eqb (length ps % 134) 0) || ltb (100 * 134) (length ps)) refl
+    where
+      by-length : (t : Bool) → (not (eqb (length ps % 134) 0) || ltb (100 * 134) (length ps)) ≡ t → PlaceOf ps (writingBank ps out .result)
+      by-length true q = rw q (no-patch refl (inr (inl refl)))
+      by-length false q = rw q (by-bank out (firstBad (length ps / 134) 0 ps) refl)
+
 -- Demand 1, whole.
 pub demand-1 : Demand1
-unfolding showing writing
+unfolding showing writing packing unpacking
 demand-1 = record {
   walk = λ s place.
       let l = found s place in
@@ -342,7 +417,9 @@ demand-1 = record {
       (λ r e. let l = found s (r .start) in
       decides-by (walkRows l) (recordIn l) _ (record-made l) (walk-refusals l) (sym (ap (λ (o : Option Report). reportOr (length s) o .outcome) e) ∙ walk-outcome s (r .start)))
       (reports judge s) (reread judge s);
+  nowhere = not-found;
   read = read-answered;
+  read-where = read-there;
   read-bytes = read-no-bytes;
   test = λ p. decides (patchRows p) 0 [] [] _ (patch-refusals p) refl;
   set-name = name-answered;
@@ -355,4 +432,9 @@ demand-1 = record {
       let m = message k b p in
       record { decides = written-decides (givenRows k b p) m out (given-refusals k b p); keeps = written-keeps (givenRows k b p) m out (given-refusals k b p) };
   bank = bank-answered;
+  bank-place = bank-place;
+  packs = λ sent out.
+      let a : Refusals (nibbleRows sent) = (omega arith, omega arith) in
+      record { decides = written-decides (nibbleRows sent) (pack sent) out a; keeps = written-keeps (nibbleRows sent) (pack sent) out a };
+  unpacks = λ bytes out. record { decides = written-decides [] (nibbles bytes) out tt; keeps = written-keeps [] (nibbles bytes) out tt };
 }

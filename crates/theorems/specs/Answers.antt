@@ -1,17 +1,19 @@
--- Demand 1: the answer and the detail of every routine are those of the first row of its table that holds, done exactly when none does; refused, every
--- lent byte is the same, and done, those behind the output are.
+-- Demand 1: the answer and the detail of every routine that may refuse are those of the first row of its table that holds, done exactly when none
+-- does; refused, every lent byte is the same, and done, those behind the output are.
 use mathlib.Core.Path.{_≡_}
 use mathlib.Core.Bool.{Bool, true, false, cond, not, _||_}
 use mathlib.Core.List.{List, [], _∷_, _++_, map}
-use Prim.Native.Nat.{ℕ, zero, suc, _*_, _/_, _%_}
+use mathlib.Core.Logic.{_⊎_}
+use Prim.Native.Nat.{ℕ, zero, suc, _*_, _/_, _%_, _<_}
 use lib.Dec.{eqb, ltb}
 use lib.ListN.{length, take, drop, getD}
 use Rattle.answers.specs.declared.Outcome.{Outcome}
 use Rattle.answers.specs.Lists.{All}
-use Rattle.answers.specs.Table.{Row, row, Verdict, outcomeOf, four}
+use Rattle.answers.specs.Table.{Row, row, Verdict, outcome, outcomeOf, four}
 use Rattle.answers.specs.Effect.{Effect, tested, Keeps, Decides}
 use Rattle.frames.specs.Bytes.{body, withoutRealTime, framed}
 use Rattle.frames.specs.Stream.{packedIn, reports}
+use Rattle.nibbles.specs.Nibbles.{nibbles, pack, nibbleRows, packing, unpacking}
 use Rattle.fields.specs.Fields.{size}
 use Rattle.patch.specs.Patch.{fieldRows, patchRows}
 use Rattle.names.specs.Names.{shown, nameRows, naming, showing}
@@ -21,6 +23,7 @@ use Rattle.messages.specs.Kinds.{kindOf}
 use Rattle.messages.specs.Judge.{byteAt, recordOf, messageRows, judge}
 use Rattle.messages.specs.Layout.{message, givenRows}
 use Rattle.reading.specs.code.Told.{walked, reads}
+use Rattle.writing.specs.declared.BankOutcome.{BankOutcome}
 use Rattle.writing.specs.Writing.{writing, bankFrom, bankMost, writingBank}
 
 -- The bytes from the first F0H on.
@@ -83,9 +86,21 @@ bankTable ps out =
     row 7 (not (eqb (length ps % size) 0) || ltb bankMost (length ps)) ∷
     thenRoom (patchesRows (length ps / size) ps) (length (bankBytes ps)) out
 
+-- The place that comes with a bank's outcome: with the refusal of a patch, the number of that patch, and no patch before it is refused; with
+-- every other answer 0.
+abbrev pub patchAt : ℕ → List ℕ → List ℕ
+patchAt k ps = take size (drop (k * size) ps)
+
+pub data PlaceOf (ps : List ℕ) (b : BankOutcome) : Type 0 where
+  refused-patch : b .outcome ≡ tested (fieldRows (patchAt (b .place) ps)) → (b .outcome .answer ≡ 0 → ⊥)
+      → ((k : ℕ) → k < b .place → tested (fieldRows (patchAt k ps)) ≡ outcome 0 0) → PlaceOf ps b
+  no-patch : b .place ≡ 0 → (b .outcome .answer ≡ 0) ⊎ (b .outcome .answer ≡ 7) ⊎ (b .outcome .answer ≡ 13) → PlaceOf ps b
+
 -- Demand 1, whole.
 pub record Demand1 : Type 0 where
   pub walk : (s : List ℕ) (place : ℕ) → let l = found s place in Decides (walkRows l) (opcodeIn l) (walked s place .outcome)
+  -- where there is no F0H, start and end are the input's length
+  pub nowhere : (s : List ℕ) (place : ℕ) → found s place ≡ [] → (walked s place .start ≡ length s) × (walked s place .end ≡ length s)
   -- each report of a stream answers as the walk from its start
   pub reports-each : (s : List ℕ) → All (λ r. let l = found s (r .start) in Decides (walkRows l) (opcodeIn l) (outcomeOf (r .verdict))) (reports judge s)
   pub read : (s : List ℕ) (place : ℕ) (lent : List ℕ)
@@ -93,12 +108,15 @@ pub record Demand1 : Type 0 where
       let n = length (packedIn (recordIn l)) in
       let e = reads s place lent in
       Answered (thenRoom (walkRows l) n lent) (opcodeIn l) n lent (e .result .report .outcome) (e .lent)
+  -- with every answer a record's start and end are those of the walk
+  pub read-where : (s : List ℕ) (place : ℕ) (lent : List ℕ)
+      → let r = reads s place lent .result .report in (r .start ≡ walked s place .start) × (r .end ≡ walked s place .end)
   -- the bytes that come with the answer are zero with every answer but 0
   pub read-bytes : (s : List ℕ) (place : ℕ) (lent : List ℕ)
       → let r = reads s place lent .result in (r .report .outcome .answer ≡ 0 → ⊥) → r .bytes ≡ four []
   pub test : (p : List ℕ) → Decides (patchRows p) 0 (tested (patchRows p))
   pub set-name : (p text : List ℕ) → let e = naming p text in Answered (nameRows p text) 0 8 p (e .result) (e .lent)
-  -- the text is eight characters where the patch has its length, and 7 where it has not
+  -- the text is eight characters where the patch has its length; where it has not, row 7 refuses
   pub show-name : (p out : List ℕ)
       → let n = length (map shown (take 8 p)) in
       let e = showing p out in
@@ -116,3 +134,12 @@ pub record Demand1 : Type 0 where
       → let n = length (bankBytes ps) in
       let e = writingBank ps out in
       Answered (bankTable ps out) n n out (e .result .outcome) (e .lent)
+  pub bank-place : (ps out : List ℕ) → PlaceOf ps (writingBank ps out .result)
+  pub packs : (sent out : List ℕ)
+      → let n = length (pack sent) in
+      let e = packing sent out in
+      Answered (thenRoom (nibbleRows sent) n out) n n out (e .result) (e .lent)
+  pub unpacks : (bytes out : List ℕ)
+      → let n = length (nibbles bytes) in
+      let e = unpacking bytes out in
+      Answered (thenRoom [] n out) n n out (e .result) (e .lent)

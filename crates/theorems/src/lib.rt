@@ -1,3 +1,2 @@
 // What holds of the whole library: demand 1 as one table of answers, demand 2's round trips, demand 3's damage, the starred examples.
 // No routine stands here: specs/ has the statements, readable without the proofs, over the definitions that the contracts below cite.
-// Below it: answers, frames, nibbles, patch, edits, messages, writing.

@@ -1,5 +1,4 @@
 // Messages into a lent output: a writer refuses and keeps every byte, or writes at the output's start and keeps the bytes behind.
-// Below it: answers, frames, nibbles, patch, edits, messages.
 use answers::DONE;
 use answers::NO_ROOM;
 use answers::NOT_ALLOWED;

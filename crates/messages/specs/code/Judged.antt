@@ -1,15 +1,14 @@
 -- A verdict as the code answers it, and what the test of a dump's data leaves.
 use mathlib.Core.Path.{_≡_}
-use mathlib.Core.List.{List, [], _++_}
+use mathlib.Core.List.{List, []}
 use Prim.Native.Nat.{ℕ, _+_, _*_}
 use lib.ListN.{take, drop, getD}
 use Rattle.answers.specs.declared.Outcome.{Outcome}
-use Rattle.answers.specs.Table.{Row, Verdict, done, refused, outcome, outcomeOf, four}
+use Rattle.answers.specs.Table.{Verdict, done, refused, outcome, outcomeOf, four}
 use Rattle.answers.specs.Effect.{tested}
 use Rattle.nibbles.specs.Nibbles.{pack}
 use Rattle.messages.specs.declared.judging.Judged.{Judged}
-use Rattle.messages.specs.Kinds.{Packed, sizeOf}
-use Rattle.messages.specs.Judge.{dataRows, packedRows}
+use Rattle.messages.specs.Judge.{dataRows}
 
 abbrev pub bytesIn : Verdict → List ℕ
 bytesIn (done op b p) = b
@@ -36,7 +35,3 @@ sentIn size c = take (2 * size) (drop 4 c)
 
 abbrev pub sumIn : ℕ → List ℕ → ℕ
 sumIn size c = getD c (4 + 2 * size) 0
-
--- The tests of a dump's data and packed bytes, from the content: 9 to 12.
-abbrev pub checkedRows : Packed → List ℕ → List Row
-checkedRows q c = let d = sentIn (sizeOf q) c in dataRows d (sumIn (sizeOf q) c) ++ packedRows q (pack d)

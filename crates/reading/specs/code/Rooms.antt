@@ -1,8 +1,9 @@
 -- Reports in lent room, their numbers one after the other.
 use mathlib.Core.Path.{_≡_}
 use mathlib.Core.List.{List, [], _∷_, _++_}
-use Prim.Native.Nat.{ℕ, zero, suc, _*_, _/_, _≤_}
+use Prim.Native.Nat.{ℕ, _*_, _/_, _≤_}
 use lib.ListN.{length, take, drop}
+use Rattle.answers.specs.Lists.{All}
 use Rattle.answers.specs.Table.{outcomeOf}
 use Rattle.frames.specs.Stream.{Report, reports}
 use Rattle.frames.specs.Scan.{outside, scan}
@@ -47,11 +48,12 @@ pub record Makes (s : List ℕ) (place : ℕ) (old new : List ℕ) (r : Listed) 
   pub holds : Holds (made s place old) old new (r .count)
   pub next : r .next ≡ endOf place (made s place old)
 
--- The reports of n calls from a place on, each next call from the end of the last report.
-abbrev pub reportsByCalls : ℕ → List ℕ → ℕ → List ℕ → List Report
-reportsByCalls zero s place room = []
-reportsByCalls (suc n) s place room = made s place room ++ reportsByCalls n s (endOf place (made s place room)) room
+-- The reports of calls from a place on, each with a room of its own, each next call from the end of the last report.
+abbrev pub reportsByCalls : List ℕ → ℕ → List (List ℕ) → List Report
+reportsByCalls s place [] = []
+reportsByCalls s place (room ∷ rooms) = made s place room ++ reportsByCalls s (endOf place (made s place room)) rooms
 
--- Calls from 0 on, with room for a report, make the reports of the stream: as many calls as there are bytes are enough.
+-- Calls from 0 on, each with room for a report, make the reports of the stream: as many calls as there are bytes are enough.
 abbrev pub CallsMakeReports : Type 0
-CallsMakeReports = (s room : List ℕ) → width ≤ length room → (n : ℕ) → length s ≤ n → reportsByCalls n s 0 room ≡ reports judge s
+CallsMakeReports =
+    (s : List ℕ) (rooms : List (List ℕ)) → All (λ room. width ≤ length room) rooms → length s ≤ length rooms → reportsByCalls s 0 rooms ≡ reports judge s
