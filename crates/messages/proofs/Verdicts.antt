@@ -1,4 +1,5 @@
--- What a message of a kind comes to, by the answer that its rows are given.
+-- What a message of a kind comes to, by the answer that its rows are given: the rows that the code tests are those of the kind, once the
+-- length is right.
 use mathlib.Core.Path.{_≡_, refl, sym, ap, _∙_}
 use mathlib.Core.Bool.{false}
 use mathlib.Core.List.{List}

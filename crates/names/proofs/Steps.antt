@@ -1,4 +1,5 @@
--- The loops over a name's characters, a turn at a time.
+-- The loops over a name's characters, a turn at a time: a search goes on behind the character at hand, and a copy puts one more behind
+-- those written.
 use mathlib.Core.Path.{_≡_, refl, ap, _∙_}
 use mathlib.Core.Bool.{false}
 use mathlib.Core.List.{List, [], _∷_, _++_, map}
