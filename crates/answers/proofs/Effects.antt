@@ -12,7 +12,8 @@ use Rattle.answers.specs.declared.Outcome.{Outcome}
 use Rattle.answers.specs.Table.{Row, row, Verdict, done, refused, first, outcome, outcomeOf, answerOf, Silent}
 use Rattle.answers.specs.Effect.{tested, changed, written, Gives, Keeps, Decides}
 use Rattle.answers.proofs.Lists.{all-append}
-use Rattle.answers.proofs.Rows.{Refusals, numberOf, Heard, nothing, something, heard, decides, first-append, first-passed, passed-over, silent-parts, zero-silent, answered-silent, row-silent, stopped, first-stopped}
+use Rattle.answers.proofs.Rows.{Refusals, numberOf, Heard, nothing, something, heard, decides}
+use Rattle.answers.proofs.Rows.{first-append, first-passed, passed-over, silent-parts, zero-silent, answered-silent, row-silent, stopped, first-stopped}
 
 -- Rows that a test answered by 0 say nothing.
 pub passed : (rows : List Row) (r : Outcome) → Refusals rows → r ≡ tested rows → r .answer ≡ 0 → Silent rows
@@ -103,8 +104,8 @@ module _ (rows : List Row) (bytes out : List ℕ) where
 
   pub written-keeps : Refusals rows → Keeps (written rows bytes out .result .answer) (length bytes) out (written rows bytes out .lent)
   written-keeps a =
-      changed-keeps (length bytes) (bytes ++ drop (length bytes) out) out (length bytes) andRoom (λ s. drop-at bytes (drop (length bytes) out) (length bytes) refl)
-      (room-refusals a)
+      changed-keeps (length bytes) (bytes ++ drop (length bytes) out) out (length bytes) andRoom
+      (λ s. drop-at bytes (drop (length bytes) out) (length bytes) refl) (room-refusals a)
 
   -- Rows that refuse give their own answer, and every byte is kept.
   pub gives-stopped : (r : Outcome) → r ≡ tested rows → (r .answer ≡ 0 → ⊥) → Gives (written rows bytes out) r out

@@ -11,7 +11,6 @@ use lib.ListN.{length, drop, getD}
 use borrow.Author.Tests.{eqb-false}
 use borrow.Author.Count.{below-more}
 use Rattle.frames.specs.Bytes.{body, realTimeIn}
-use Rattle.frames.specs.code.Extent.{ahead}
 use Rattle.frames.specs.code.Blocks.{None, Ahead, Onward}
 use Rattle.frames.proofs.Extent.{ahead-other, body-data, real-time-data}
 
@@ -40,38 +39,36 @@ upto-more s i n a h =
     let right : b ≤ bitOr a b = omega (arith, or-add-and a b, and-le-l a b) in
     below-more (λ (j : ℕ). getD s (i + j) 0 ≤ bitOr a b) n (λ j k. le-trans (h j k) left) right
 
--- n bytes from i on without an F0H.
-pub ahead-block : (s : List ℕ) (n i : ℕ) → i + n ≤ length s → None (λ b. b ≡ 0xF0) i n s → ahead (drop i s) ≡ n + ahead (drop (i + n) s)
-ahead-block s zero i h none = rw (add-zero i) (omega arith)
-ahead-block s (suc n) i h none =
-    let here : getD s i 0 ≡ 0xF0 → ⊥ = λ e. none 0 (omega arith) (rw (add-zero i) e) in
+-- What holds at index i, and goes on past each byte that is not looked for, holds behind n such bytes.
+past-block : (P : ℕ → Type 0) (s : List ℕ) (Q : ℕ → Type 0) → ((i : ℕ) → i < length s → (P (getD s i 0) → ⊥) → Q i → Q (i + 1))
+    → (n i : ℕ) → i + n ≤ length s → None P i n s → Q i → Q (i + n)
+past-block P s Q on zero i h none q = rw (add-zero i) q
+past-block P s Q on (suc n) i h none q =
     let next : (i + 1) + n ≡ i + suc n = omega arith in
-    let rest = ahead-block s n (i + 1) (omega arith) (λ j k e. none (suc j) (omega arith) (let same : i + suc j ≡ (i + 1) + j = omega arith in rw same e)) in
-    omega (arith, ahead-other s i (omega arith) here, rw next at rest)
+    let here : P (getD s i 0) → ⊥ = λ e. none 0 (omega arith) (rw (add-zero i) e) in
+    let same : (j : ℕ) → i + suc j ≡ (i + 1) + j = λ j. omega arith in
+    rw next at (past-block P s Q on n (i + 1) (omega arith) (λ j k e. none (suc j) (omega arith) (rw (same j) e)) (on i (omega arith) here q))
 
-pub ahead-none : (s : List ℕ) → Ahead s 0
-ahead-none s = record { within = omega arith; left = omega arith }
-
-pub ahead-more : (s : List ℕ) (i : ℕ) → i + 16 ≤ length s → Ahead s i → None (λ b. b ≡ 0xF0) i 16 s → Ahead s (i + 16)
-ahead-more s i h a none = record { within = h; left = omega (arith, a .left, ahead-block s 16 i h none) }
-
--- n data bytes from i on.
 module _ (s : List ℕ) where
-  body-block : (n i : ℕ) → i + n ≤ length s → None (λ b. 0x80 ≤ b) i n s
-      → (length (body (drop i s)) ≡ n + length (body (drop (i + n) s))) × (realTimeIn (body (drop i s)) ≡ realTimeIn (body (drop (i + n) s)))
-  body-block zero i h none = (rw (add-zero i) (omega arith), rw (add-zero i))
-  body-block (suc n) i h none =
-      let here : getD s i 0 < 0x80 = lt-of-not-le (λ e. none 0 (omega arith) (rw (add-zero i) e)) in
-      let next : (i + 1) + n ≡ i + suc n = omega arith in
-      let rest = body-block n (i + 1) (omega arith) (λ j k e. none (suc j) (omega arith) (let same : i + suc j ≡ (i + 1) + j = omega arith in rw same e)) in
-      let e = body-data s i (omega arith) here in
-      let quiet = ap realTimeIn e ∙ real-time-data (getD s i 0) (body (drop (i + 1) s)) (omega arith) in
-      (omega (arith, ap length e, rw next at (rest .0)), quiet ∙ rw next at (rest .1))
+  pub ahead-none : Ahead s 0
+  ahead-none = record { within = omega arith; left = omega arith }
+
+  -- One byte that is not F0H.
+  ahead-on : (i : ℕ) → i < length s → (getD s i 0 ≡ 0xF0 → ⊥) → Ahead s i → Ahead s (i + 1)
+  ahead-on i h n a = record { within = omega arith; left = omega (arith, a .left, ahead-other s i h n) }
+
+  pub ahead-more : (i : ℕ) → i + 16 ≤ length s → Ahead s i → None (λ b. b ≡ 0xF0) i 16 s → Ahead s (i + 16)
+  ahead-more i h a none = past-block (λ b. b ≡ 0xF0) s (Ahead s) ahead-on 16 i h none a
 
   pub onward-none : Onward s 0
   onward-none = record { within = omega arith; counted = omega arith; quiet = refl }
 
+  -- One data byte.
+  onward-on : (i : ℕ) → i < length s → (0x80 ≤ getD s i 0 → ⊥) → Onward s i → Onward s (i + 1)
+  onward-on i h n o =
+      let e = body-data s i h (lt-of-not-le n) in
+      let none = ap realTimeIn e ∙ real-time-data (getD s i 0) (body (drop (i + 1) s)) (omega (arith, lt-of-not-le n)) in
+      record { within = omega arith; counted = omega (arith, o .counted, ap length e); quiet = o .quiet ∙ none }
+
   pub onward-more : (i : ℕ) → i + 16 ≤ length s → Onward s i → None (λ b. 0x80 ≤ b) i 16 s → Onward s (i + 16)
-  onward-more i h o none =
-      let b = body-block 16 i h none in
-      record { within = h; counted = omega (arith, o .counted, b .0); quiet = o .quiet ∙ b .1 }
+  onward-more i h o none = past-block (λ b. 0x80 ≤ b) s (Onward s) onward-on 16 i h none o

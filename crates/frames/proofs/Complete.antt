@@ -14,7 +14,8 @@ use borrow.Author.Tests.{eqb-true, eqb-false}
 use Rattle.answers.specs.Lists.{All}
 use Rattle.answers.specs.Table.{Verdict, answerOf}
 use Rattle.answers.proofs.Lists.{all-weaken}
-use Rattle.frames.specs.Bytes.{ByteKind, dataByte, exclusive, endOfExclusive, otherStatus, realTime, byteKind, ends, isRealTime, body, withoutRealTime, framed}
+use Rattle.frames.specs.Bytes.{ByteKind, dataByte, exclusive, endOfExclusive, otherStatus, realTime}
+use Rattle.frames.specs.Bytes.{byteKind, ends, isRealTime, body, withoutRealTime, framed}
 use Rattle.frames.specs.Stream.{Report, report, messageAt, firstFrom, walk}
 use Rattle.frames.specs.Scan.{outside, scan}
 use Rattle.frames.proofs.Bytes.{lies-in, kind-is, body-on, body-stop}

@@ -37,7 +37,8 @@ module _ (judge : List ℕ → Verdict) where
     where
       by-test : (v : Bool) → cond v 0 (suc (ahead t)) < suc (length t)
           → (ahead t < length t → firstFrom judge (suc p) t ≡ some (messageAt judge (suc p + ahead t) (drop (suc (ahead t)) t)))
-          → cond v (some (messageAt judge p t)) (firstFrom judge (suc p) t) ≡ some (messageAt judge (p + cond v 0 (suc (ahead t))) (drop (cond v 0 (suc (ahead t))) t))
+          → cond v (some (messageAt judge p t)) (firstFrom judge (suc p) t)
+          ≡ some (messageAt judge (p + cond v 0 (suc (ahead t))) (drop (cond v 0 (suc (ahead t))) t))
       by-test true k i = rw (add-zero p)
       by-test false k i = rw (further p (ahead t)) (i (omega arith))
 

@@ -52,7 +52,8 @@ module _ (judge : List ℕ → Verdict) where
     behind = split t (length (body t)) h
 
     pub inside-again : getD t (length (body t)) 0 ≡ 0xF0
-        → scan judge (suc f) (inside f []) t ≡ messageAt judge f t ∷ scan judge (suc (suc f + length (body t))) (inside (suc f + length (body t)) []) (drop (length (body t) + 1) t)
+        → scan judge (suc f) (inside f []) t
+        ≡ messageAt judge f t ∷ scan judge (suc (suc f + length (body t))) (inside (suc f + length (body t)) []) (drop (length (body t) + 1) t)
     inside-again e = scan-again judge f t (drop (length (body t) + 1) t) (rw e at behind)
 
     pub inside-left : (getD t (length (body t)) 0 ≡ 0xF0 → ⊥)
@@ -62,7 +63,8 @@ module _ (judge : List ℕ → Verdict) where
         by-test : (v : Bool) → eqb (getD t (length (body t)) 0) 0xF7 ≡ v
             → scan judge (suc f) (inside f []) t ≡ messageAt judge f t ∷ scan judge (suc (suc f + length (body t))) outside (drop (length (body t) + 1) t)
         by-test true q = scan-closed judge f t (drop (length (body t) + 1) t) (rw (eqb-true (getD t (length (body t)) 0) 0xF7 q) at behind)
-        by-test false q = scan-broken judge f t (getD t (length (body t)) 0) (drop (length (body t) + 1) t) behind n (eqb-false (getD t (length (body t)) 0) 0xF7 q)
+        by-test false q =
+            let b = getD t (length (body t)) 0 in scan-broken judge f t b (drop (length (body t) + 1) t) behind n (eqb-false b 0xF7 q)
 
   pub inside-cut : (f : ℕ) (t : List ℕ) → length t ≤ length (body t) → scan judge (suc f) (inside f []) t ≡ messageAt judge f t ∷ []
   inside-cut f t h = scan-cut judge f t (drop-of-length-le t h)

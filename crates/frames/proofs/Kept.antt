@@ -18,7 +18,8 @@ unfolding withoutRealTime
 without-append [] b = refl
 without-append (x ∷ a) b = rw (without-append a b) (by-test (isRealTime (byteKind x)))
   where
-    by-test : (t : Bool) → cond t (withoutRealTime a ++ withoutRealTime b) (x ∷ (withoutRealTime a ++ withoutRealTime b)) ≡ cond t (withoutRealTime a) (x ∷ withoutRealTime a) ++ withoutRealTime b
+    by-test : (t : Bool) → cond t (withoutRealTime a ++ withoutRealTime b) (x ∷ (withoutRealTime a ++ withoutRealTime b))
+        ≡ cond t (withoutRealTime a) (x ∷ withoutRealTime a) ++ withoutRealTime b
     by-test true = refl
     by-test false = refl
 

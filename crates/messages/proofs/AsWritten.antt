@@ -1,19 +1,18 @@
 -- A message that is accepted is the message that our writer writes from its record.
 -- Its rows say nothing, so its length is right, its data bytes are the nibbles of the packed bytes, and its sum is theirs.
 use mathlib.Core.Path.{_≡_, refl, sym, ap, _∙_}
-use mathlib.Core.Bool.{Bool, true, false, cond}
+use mathlib.Core.Bool.{false}
 use mathlib.Core.List.{List, [], _∷_, _++_}
 use Prim.Native.Nat.{ℕ, suc, _+_, _*_}
 use native.Mathlib.Omega.{arith}
-use lib.Dec.{eqb}
 use lib.ListN.{length, take, getD, length-append, drop-of-length-le}
 use lib.Seq.{split-at, length-take-le}
 use borrow.Author.Tests.{eq-eqb}
 use Rattle.answers.specs.Table.{Verdict, done, refused, outcome, answerOf, Silent}
-use Rattle.answers.proofs.Rows.{done-passed, row-silent, row-equal, row-at-silent}
+use Rattle.answers.proofs.Rows.{done-passed, row-silent, row-equal}
 use Rattle.frames.specs.Bytes.{framed}
-use Rattle.nibbles.specs.Nibbles.{nibbles, pack, sum, firstWide}
-use Rattle.nibbles.proofs.Laws.{length-pack, nibbles-pack, wide-none}
+use Rattle.nibbles.specs.Nibbles.{nibbles, pack, sum}
+use Rattle.nibbles.proofs.Laws.{length-pack, nibbles-pack}
 use Rattle.messages.specs.Kinds.{Dump, Short, Kind, ofDump, ofShort, unknown, opcodeOf, kindOf, Filed, lengthOf, isUnknown, countOf}
 use Rattle.messages.specs.Judge.{numberIn, dumpRows, messageRows, kindRows, recordOf, judge}
 use Rattle.messages.specs.Layout.{messageOf, dump, message, recordFor, Given, givenRows}

@@ -1,20 +1,19 @@
 -- What a dump of each kind comes to: which bytes are its data and its sum, and that it is tested by its length, its number, its data and its sum.
 -- From that, the dump that our writer writes is accepted, and a dump of another length is refused by 7.
 use mathlib.Core.Path.{_≡_, refl, sym, _∙_}
-use mathlib.Core.Bool.{Bool, false, not}
+use mathlib.Core.Bool.{false, not}
 use mathlib.Core.List.{List, [], _∷_, _++_, append-assoc}
 use Prim.Native.Nat.{ℕ, _+_, _*_, _<_}
 use native.Mathlib.Omega.{arith}
-use lib.Dec.{eqb, ltb}
+use lib.Dec.{eqb}
 use lib.ListN.{length, length-append}
 use lib.Seq.{take-at, getD-at, getD-drop}
 use borrow.Author.Tests.{eq-eqb, ne-eqb}
 use Rattle.answers.specs.Lists.{All}
-use Rattle.answers.specs.Table.{Row, row, rowAt, Verdict, done, refused, first, outcome, answerOf, Silent}
+use Rattle.answers.specs.Table.{row, Verdict, done, refused, first, outcome, answerOf, Silent}
 use Rattle.answers.proofs.Rows.{Refusals, first-passed, zero-silent, row-silent, row-at-silent, row-equal}
 use Rattle.nibbles.specs.Nibbles.{nibbles, pack, sum, firstWide}
 use Rattle.nibbles.proofs.Laws.{length-nibbles, pack-nibbles, nibbles-narrow, not-wide, wide-none}
-use Rattle.patch.specs.Patch.{fieldRows}
 use Rattle.messages.specs.Kinds.{Dump, ofDump, Filed, sizeOf}
 use Rattle.messages.specs.Judge.{dataOf, packedOf, sumOf, dataRows, misnumbered, numberIn, packedRows, dumpRows, judge}
 use Rattle.messages.specs.Layout.{messageOf, dump}
@@ -64,7 +63,8 @@ rows-passed k n d s q = record {
 
 module _ (k : Dump) (filed : Filed (ofDump k)) (n : ℕ) where
   dump-judged : (w : List ℕ) (m : List ℕ) → m ≡ messageOf (k .opcode) (n ∷ w)
-      → judge m ≡ first (row 7 (not (eqb (length m) (7 + 2 * size k))) ∷ dumpRows k n (dataOf (size k) m) (sumOf (size k) m)) (dumpRecord k n (packedOf (size k) m))
+      → judge m
+      ≡ first (row 7 (not (eqb (length m) (7 + 2 * size k))) ∷ dumpRows k n (dataOf (size k) m) (sumOf (size k) m)) (dumpRecord k n (packedOf (size k) m))
   unfolding judge
   dump-judged w m e = rw (e, filed, filed-sized (ofDump k) filed .0)
 
@@ -81,7 +81,8 @@ module _ (k : Dump) (filed : Filed (ofDump k)) (n : ℕ) where
   dump-tested d s l =
       let m = messageOf (k .opcode) (n ∷ (d ++ (s ∷ []))) in
       let right : length m ≡ 7 + 2 * size k = omega (arith, message-length (k .opcode) n (d ++ (s ∷ [])), length-append d (s ∷ [])) in
-      rw (dump-judged (d ++ (s ∷ [])) m refl, eq-eqb (length m) (7 + 2 * size k) right, data-of (size k) (k .opcode) n d s l, sum-of (size k) (k .opcode) n d s l)
+      let judged = dump-judged (d ++ (s ∷ [])) m refl in
+      rw (judged, eq-eqb (length m) (7 + 2 * size k) right, data-of (size k) (k .opcode) n d s l, sum-of (size k) (k .opcode) n d s l)
 
   -- A dump as our writer writes it, of bytes that pass its tests, is accepted with these bytes.
   pub dump-accepted : (p : List ℕ) → misnumbered (k .behind) n ≡ false → length p ≡ size k → All (λ b. b < 256) p → Silent (packedRows (k .packed) p)

@@ -6,7 +6,7 @@ pub mod Long
 pub mod Numbers
 pub mod DumpLaws
 pub mod Replaced
-pub mod Master
+pub mod OneNibble
 pub mod Accepted
 pub mod Written
 pub mod AsWritten

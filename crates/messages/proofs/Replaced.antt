@@ -1,7 +1,7 @@
 -- A patch dump one data byte of which, or the sum, is replaced by another data byte is refused; and so is a message that is the end of a dump's data.
 -- The sum misses only a high nibble that moved by 8; its byte then moved by 128, and no field accepts both.
-use mathlib.Core.Path.{_≡_, refl, sym, ap, _∙_}
-use mathlib.Core.List.{List, [], _∷_, _++_, append-assoc, tail-eq-of-cons-eq, nil≢cons}
+use mathlib.Core.Path.{_≡_, sym, ap, _∙_}
+use mathlib.Core.List.{List, [], _∷_, _++_, append-assoc, tail-eq-of-cons-eq}
 use mathlib.Core.Logic.{⊎-elim}
 use mathlib.Core.Option.{none}
 use Prim.Native.Nat.{ℕ, _+_, _*_, _/_, _%_, _<_}
@@ -14,7 +14,8 @@ use Rattle.answers.proofs.Lists.{all-at}
 use Rattle.answers.proofs.Rows.{row-at-silent}
 use Rattle.frames.specs.Bytes.{framed}
 use Rattle.nibbles.specs.Nibbles.{nibbles, pack, sum}
-use Rattle.nibbles.proofs.Laws.{length-nibbles, pack-nibbles, pack-low, pack-high, low-changes-sum, high-changes-sum, Position, at-low, at-high, at-sum, position}
+use Rattle.nibbles.proofs.Laws.{length-nibbles, pack-nibbles, pack-low, pack-high, low-changes-sum, high-changes-sum}
+use Rattle.nibbles.proofs.Laws.{Position, at-low, at-high, at-sum, position, no-tail}
 use Rattle.patch.specs.Patch.{firstOut}
 use Rattle.patch.proofs.Runs.{fields-bytes, fields-apart}
 use Rattle.messages.specs.Kinds.{aPatch, Dump, ofDump, Filed, sizeOf}
@@ -42,8 +43,9 @@ module _ (k : Dump) (filed : Filed (ofDump k)) (patch : k .packed ≡ aPatch) (n
       → Moved p₁ c p₂ (nibbles p₁ ++ (x ∷ y ∷ nibbles p₂))
   moved p₁ b c p₂ x y e₀ e₁ e =
       let d = nibbles p₁ ++ (x ∷ y ∷ nibbles p₂) in
+      let halves = length-append (nibbles p₁) (x ∷ y ∷ nibbles p₂) in
       let long : length d ≡ 2 * size k =
-      omega (arith, length-append (nibbles p₁) (x ∷ y ∷ nibbles p₂), length-nibbles p₁, length-nibbles p₂, length-append p₁ (b ∷ p₂), ap length e₀, patch-size) in
+      omega (arith, halves, length-nibbles p₁, length-nibbles p₂, length-append p₁ (b ∷ p₂), ap length e₀, patch-size) in
       let q = dump-passed k filed n d (sum p) long (rw (append-assoc (nibbles p₁) (x ∷ y ∷ nibbles p₂) (sum p ∷ [])) e) in
       record { narrow = q .narrow; same-sum = rw e₁ at (q .summed); fits = in-range (p₁ ++ c ∷ p₂) (rw e₁ at (q .packed)) }
 
@@ -70,10 +72,6 @@ module _ (k : Dump) (filed : Filed (ofDump k)) (patch : k .packed ≡ aPatch) (n
   pub replaced : (u : List ℕ) (x : ℕ) (v : List ℕ) (y : ℕ) → u ++ x ∷ v ≡ nibbles p ++ (sum p ∷ []) → (y ≡ x → ⊥)
       → answerOf (judge (messageOf (k .opcode) (n ∷ (u ++ y ∷ v)))) ≡ 0 → ⊥
   replaced u x v y e = by-position u x v y (position p (sum p) u x v e)
-
-no-tail : (u : List ℕ) (x : ℕ) (v : List ℕ) → u ++ x ∷ v ≡ [] → ⊥
-no-tail [] x v e = nil≢cons (sym e)
-no-tail (a ∷ u) x v e = nil≢cons (sym e)
 
 -- The last bytes of nibbles d and a sum s are not what stands between F0H and F7H of an accepted message: none of them begins with 10H 06H.
 pub suffix-refused : (u v d : List ℕ) (s : ℕ) → All (λ b. b < 16) d → u ++ v ≡ d ++ (s ∷ []) → answerOf (judge (framed v)) ≡ 0 → ⊥

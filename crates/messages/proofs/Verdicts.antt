@@ -1,20 +1,21 @@
--- What a message of a kind comes to, by the answer that its rows are given.
+-- What a message of a kind comes to, by the answer that its rows are given: the rows that the code tests are those of the kind, once the
+-- length is right.
 use mathlib.Core.Path.{_≡_, refl, sym, ap, _∙_}
 use mathlib.Core.Bool.{false}
-use mathlib.Core.List.{List, [], _∷_}
+use mathlib.Core.List.{List}
 use Prim.Native.Nat.{ℕ, _+_, _*_}
 use native.Mathlib.Omega.{arith}
-use lib.ListN.{length, take, drop, getD}
+use lib.ListN.{length, drop, getD}
 use borrow.Author.Tests.{eq-eqb, ne-eqb}
 use Rattle.answers.specs.declared.Outcome.{Outcome}
-use Rattle.answers.specs.Table.{Row, done, refused, first, outcome, four}
+use Rattle.answers.specs.Table.{Row, refused, first, outcome, four}
 use Rattle.answers.specs.Effect.{tested}
 use Rattle.answers.proofs.Rows.{Refusals, first-passed, first-stopped}
 use Rattle.answers.proofs.Effects.{passed}
 use Rattle.frames.specs.Bytes.{framed}
 use Rattle.messages.specs.Kinds.{Dump, Short, Kind, ofDump, ofShort, kindOf, opcodeOf, sizeOf, countOf, lengthOf, isUnknown, Sized}
 use Rattle.messages.specs.Judge.{byteAt, dumpRows, operandRows, numberIn, kindRows, recordOf, kindVerdict, judge}
-use Rattle.messages.specs.code.Judged.{judged, bytesIn, judgedAs, refusedBy, sentIn, sumIn}
+use Rattle.messages.specs.code.Judged.{judged, judgedAs, refusedBy, sentIn, sumIn}
 use Rattle.messages.proofs.DumpLaws.{dump-refusals}
 use Rattle.messages.proofs.Numbers.{operand-refusals}
 use Rattle.messages.proofs.Content.{framed-length, framed-byte, framed-data, framed-sum, framed-bytes}

@@ -1,5 +1,5 @@
--- The messages as our writers write them: what stands between F0H and F7H is data bytes, and a message that passes its writer's tests is accepted with its record.
--- Numbers are below 100, nibbles below 16, the sum below 128; a parameter, a bus and its bytes are in range.
+-- The messages as our writers write them: what stands between F0H and F7H is data bytes, and a message that passes its writer's tests is
+-- accepted with its record. Numbers are below 100, nibbles below 16, the sum below 128; a parameter, a bus and its bytes are in range.
 use mathlib.Core.Path.{_≡_, refl, sym, ap, _∙_, subst}
 use mathlib.Core.Bool.{false}
 use mathlib.Core.List.{List, [], _∷_, _++_, append-nil}
@@ -23,7 +23,8 @@ use Rattle.patch.proofs.Runs.{one-in, fields-bytes}
 use Rattle.fields.proofs.Buses.{source-below, destination-below}
 use Rattle.edits.specs.Edits.{extended, editRows, busRows}
 use Rattle.edits.proofs.Tests.{rows-at, rows-nowhere, value-small, bus-number, bus-amount, bus-bytes}
-use Rattle.messages.specs.Kinds.{Behind, numberTo, always, Packed, aPatch, anyBytes, Operands, anEdit, aBusEdit, Short, Kind, ofDump, ofShort, unknown, countOf, sizeOf, opcodeOf, Filed}
+use Rattle.messages.specs.Kinds.{Behind, numberTo, always, Packed, aPatch, anyBytes, Operands, anEdit, aBusEdit, Short}
+use Rattle.messages.specs.Kinds.{Kind, ofDump, ofShort, unknown, countOf, sizeOf, opcodeOf, Filed}
 use Rattle.messages.specs.Judge.{misnumbered, numberIn, packedRows, operandRows, bytesFrom, judge}
 use Rattle.messages.specs.Layout.{messageOf, dump, behindFor, message, recordFor, Numbered, Given, AllBytes, BytesIn, givenRows}
 use Rattle.messages.proofs.Filed.{every-kind, filed-sized}

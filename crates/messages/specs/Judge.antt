@@ -8,7 +8,8 @@ use Rattle.answers.specs.Table.{Row, row, rowAt, Verdict, done, first}
 use Rattle.nibbles.specs.Nibbles.{pack, sum, firstWide}
 use Rattle.patch.specs.Patch.{fieldRows}
 use Rattle.edits.specs.Edits.{editRows, busRows}
-use Rattle.messages.specs.Kinds.{Behind, numberTo, always, Packed, aPatch, anyBytes, Dump, Operands, anEdit, aBusEdit, Kind, ofDump, ofShort, unknown, kindOf, countOf, sizeOf, lengthOf, isUnknown}
+use Rattle.messages.specs.Kinds.{Behind, numberTo, always, Packed, aPatch, anyBytes, Dump, Operands, anEdit, aBusEdit}
+use Rattle.messages.specs.Kinds.{Kind, ofDump, ofShort, unknown, kindOf, countOf, sizeOf, lengthOf, isUnknown}
 
 -- The byte at place i of a message, F0H at 0.
 abbrev pub byteAt : List ℕ → ℕ → ℕ

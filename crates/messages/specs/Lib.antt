@@ -1,4 +1,5 @@
 pub mod Kinds
 pub mod Judge
 pub mod Layout
+pub mod OneNibble
 pub mod code

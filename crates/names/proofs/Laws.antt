@@ -1,21 +1,21 @@
 -- Names: a character and its stored byte determine each other, and setting and showing go by the patch's fields.
 use mathlib.Core.Path.{_≡_, refl, ap, _∙_}
-use mathlib.Core.Bool.{Bool, true, false, cond, not, _||_}
+use mathlib.Core.Bool.{Bool, true, false, cond, _||_}
 use mathlib.Core.Option.{none}
 use mathlib.Core.List.{List, [], _∷_, _++_, map}
 use Prim.Native.Nat.{ℕ, zero, suc, _+_, _-_, _*_, _≤_}
 use native.Mathlib.Omega.{arith}
-use lib.Dec.{eqb, ltb}
+use lib.Dec.{ltb}
 use lib.ListN.{length, getD, take, drop, length-map, length-append, length-drop, take-append-drop}
 use lib.Seq.{length-take-le, take-at, getD-append-add, getD-drop}
 use borrow.Author.Tests.{eq-eqb, lt-ltb, le-ltb, ltb-true, ltb-false}
 use Rattle.answers.specs.declared.Outcome.{Outcome}
-use Rattle.answers.specs.Table.{Row, row, done, first, outcome, Silent}
+use Rattle.answers.specs.Table.{done, first, outcome, Silent}
 use Rattle.answers.specs.Effect.{Effect, changed}
 use Rattle.answers.specs.Lists.{All}
 use Rattle.answers.proofs.Rows.{first-passed, row-silent, row-equal}
 use Rattle.answers.proofs.Effects.{changed-silent, written-fits, written-done}
-use Rattle.patch.specs.Patch.{outFrom, firstOut, halfFrom, firstHalf, lengthRow, fieldRows, patchRows}
+use Rattle.patch.specs.Patch.{outFrom, firstOut, halfFrom, firstHalf, fieldRows, patchRows}
 use Rattle.names.specs.Names.{nameRows, shown, stored, anyOutside, naming, showing}
 use Rattle.fields.proofs.Rules.{name-accepts, name-byte}
 use Rattle.patch.proofs.Runs.{one-in, one-more-in, none-out, out-join, out-split}

@@ -231,7 +231,7 @@ pub data Position (p : List ℕ) (s : ℕ) (u : List ℕ) (x : ℕ) (v : List �
       → u ≡ nibbles p₁ ++ ((b % 16) ∷ []) → x ≡ b / 16 → v ≡ nibbles p₂ ++ (s ∷ []) → Position p s u x v
   at-sum : u ≡ nibbles p → x ≡ s → v ≡ [] → Position p s u x v
 
-no-tail : (u : List ℕ) (x : ℕ) (v : List ℕ) → u ++ x ∷ v ≡ [] → ⊥
+pub no-tail : (u : List ℕ) (x : ℕ) (v : List ℕ) → u ++ x ∷ v ≡ [] → ⊥
 no-tail [] x v e = nil≢cons (sym e)
 no-tail (a ∷ u) x v e = nil≢cons (sym e)
 
@@ -301,9 +301,9 @@ total-end s i h = rw (drop-of-length-le s h)
 
 -- One byte more gives two nibbles more.
 pub nibbles-take : (s : List ℕ) (i : ℕ) → i < length s
-    → nibbles (take (i + 1) s) ≡ (nibbles (take i s) ++ ((getD s i 0 % 16) ∷ [])) ++ ((getD s i 0 / 16) ∷ [])
+    → nibbles (take (i + 1) s) ≡ nibbles (take i s) ++ ((getD s i 0 % 16) ∷ (getD s i 0 / 16) ∷ [])
 unfolding nibbles
-nibbles-take s i h = rw (add-one, take-suc s i 0 h, nibbles-append) (simp append-assoc)
+nibbles-take s i h = rw (add-one, take-suc s i 0 h, nibbles-append)
 
 -- Packing goes on behind an even number of nibbles.
 pub pack-append : (u v : List ℕ) → length u % 2 ≡ 0 → pack (u ++ v) ≡ pack u ++ pack v

@@ -6,7 +6,7 @@ use native.Mathlib.Omega.{arith}
 use lib.ListN.{length, take, drop, length-drop}
 use lib.Seq.{length-take-le}
 use borrow.Author.Tests.{le-leb, lt-leb}
-use Rattle.answers.specs.Table.{Verdict, done, refused, outcome, answerOf, four}
+use Rattle.answers.specs.Table.{Verdict, done, refused, outcome, four}
 use Rattle.answers.specs.Effect.{Gives}
 use Rattle.answers.specs.declared.Outcome.{Outcome}
 use Rattle.frames.specs.Bytes.{framed}

@@ -9,7 +9,7 @@ use native.Mathlib.Omega.{arith}
 use lib.ListN.{length, take, drop, length-append, length-drop, drop-of-length-le}
 use lib.Seq.{take-nil, take-all, take-take, drop-drop}
 use Rattle.answers.specs.Lists.{All}
-use Rattle.frames.specs.Stream.{Report, reports}
+use Rattle.frames.specs.Stream.{Report}
 use Rattle.frames.specs.Scan.{outside, scan}
 use Rattle.frames.specs.Order.{InOrder}
 use Rattle.frames.proofs.Walk.{Walked, nothing, message, walked, reports-scan, scan-order}
@@ -79,7 +79,8 @@ pub next-within : (s : List ℕ) (p : ℕ) (room : List ℕ) → p ≤ length s
 next-within s p room h =
     let m = most-of s p room in
     let whole : p + length (drop p s) ≡ length s = omega (arith, length-drop p s) in
-    rw (m .taken) (order-end (take (m .number) (from s p)) p (length s) h (order-take (m .number) (from s p) p (length s) (rw whole at (scan-order judge (drop p s) p))))
+    let order = order-take (m .number) (from s p) p (length s) (rw whole at (scan-order judge (drop p s) p)) in
+    rw (m .taken) (order-end (take (m .number) (from s p)) p (length s) h order)
 
 -- Past the input there is no report.
 none-past : (s : List ℕ) (p : ℕ) → length s ≤ p → from s p ≡ []

@@ -3,12 +3,13 @@ use mathlib.Core.Path.{_≡_, refl, sym, ap, _∙_}
 use mathlib.Core.List.{List, [], _∷_, _++_, append-assoc}
 use Prim.Native.Nat.{ℕ, zero, suc, _+_, _-_, _*_, _/_, _<_, _≤_}
 use native.Mathlib.Omega.{arith}
-use lib.ListN.{length, take, drop, getD, set, length-drop, take-append-drop, drop-of-length-le}
+use lib.ListN.{length, take, drop, getD, length-drop, take-append-drop, drop-of-length-le}
 use lib.Seq.{take-nil, take-all, take-take, length-take-le, drop-append-le, getD-append-add}
 use borrow.Rule.Slice.PartMut.{putMid}
 use Rattle.answers.proofs.Lists.{to-end, then-part}
-use Rattle.frames.specs.Stream.{Report}
-use Rattle.frames.specs.Scan.{outside, scan}
+use Rattle.frames.specs.Bytes.{body}
+use Rattle.frames.specs.Stream.{Report, messageAt}
+use Rattle.frames.specs.Scan.{State, outside, inside, scan}
 use Rattle.messages.specs.Judge.{judge}
 use Rattle.reading.specs.code.Rooms.{numbersOf, width, flat, fitting, Holds, endOf, most, made, Makes}
 use Rattle.reading.specs.code.Told.{reportOf}
@@ -41,6 +42,10 @@ take-le zero rs = omega arith
 take-le (suc n) [] = omega arith
 take-le (suc n) (r ∷ rs) = omega (arith, take-le n rs)
 
+-- The reports in the part of a room behind its first report.
+abbrev pub PartHolds : List ℕ → List Report → List ℕ → ℕ → Type 0
+PartHolds xs rs ys k = let part = take (length xs - width) (drop width xs) in Holds (fitting part rs) part ys k
+
 -- One report at the start, and the others in the part behind it.
 module _ (r : Report) (rs : List Report) (old xs : List ℕ) (h : width ≤ length old) (e : xs ≡ numbersOf r ++ drop width old) where
   rest : ℕ
@@ -57,7 +62,7 @@ module _ (r : Report) (rs : List Report) (old xs : List ℕ) (h : width ≤ leng
   unfolding rest
   part-room = omega (arith, ap length (to-end width xs), length-drop width xs, same-length)
 
-  pub lists-more : (ys : List ℕ) (k : ℕ) → Holds (fitting (take (length xs - width) (drop width xs)) rs) (take (length xs - width) (drop width xs)) ys k
+  pub lists-more : (ys : List ℕ) (k : ℕ) → PartHolds xs rs ys k
       → Holds (fitting old (r ∷ rs)) old (putMid width (length xs - width) xs ys) (1 + k)
   unfolding flat rest
   lists-more ys k l =
@@ -67,8 +72,21 @@ module _ (r : Report) (rs : List Report) (old xs : List ℕ) (h : width ≤ leng
       let more : width * suc (length made) ≡ width + width * length made = omega arith in
       record {
         count = rw room (omega arith);
-        numbers = rw (room, more) (then-part (numbersOf r) (flat made) old xs ys width (width * length made) refl (length-flat made) fits e (rw part-room at (l .numbers)));
+        numbers =
+            rw (room, more)
+            (then-part (numbersOf r) (flat made) old xs ys width (width * length made) refl (length-flat made) fits e (rw part-room at (l .numbers)));
       }
+
+-- The scan gives a message's report, then goes on at place q behind the byte that ended the body, n bytes on, in a state st.
+module _ (s : List ℕ) (f : ℕ) (old xs : List ℕ) (h : width ≤ length old) (e : xs ≡ numbersOf (messageAt judge f s) ++ drop width old) where
+  pub lists-on : (n : ℕ) → n ≡ length (body s) → (st : ℕ → State) (q : ℕ) → q ≡ suc (f + 1 + n)
+      → scan judge (suc f) (inside f []) s
+      ≡ messageAt judge f s ∷ scan judge (suc (suc f + length (body s))) (st (suc f + length (body s))) (drop (length (body s) + 1) s)
+      → (ys : List ℕ) (k : ℕ) → PartHolds xs (scan judge q (st (f + 1 + n)) (take (length s - (n + 1)) (drop (n + 1) s))) ys k
+      → Holds (fitting old (scan judge (suc f) (inside f []) s)) old (putMid width (length xs - width) xs ys) (1 + k)
+  lists-on n index st q next on ys k l =
+      let place : f + 1 + length (body s) ≡ suc f + length (body s) = omega arith in
+      rw on (lists-more (messageAt judge f s) _ old xs h e ys k (rw (to-end (n + 1) s, next, index, place) at l))
 
 -- One report and no other.
 pub lists-one : (r : Report) (old xs : List ℕ) → width ≤ length old → xs ≡ numbersOf r ++ drop width old
@@ -78,9 +96,11 @@ lists-one r old xs h e =
     let room : length old / width ≡ suc ((length old - width) / width) = omega arith in
     record { count = rw (room, take-nil ((length old - width) / width)); numbers = e ∙ rw (room, take-nil ((length old - width) / width)) }
 
--- How many reports a room can hold is a number.
-pub lists-fits : (rs : List Report) (old : List ℕ) {new : List ℕ} {k : ℕ} → Holds (fitting old rs) old new k → k ≤ length old
-lists-fits rs old {new} {k} l = omega (arith, l .count, take-most (length old / width) rs)
+-- There are no more of them than the part has numbers.
+pub part-fits : (xs : List ℕ) (rs : List Report) {ys : List ℕ} {k : ℕ} → PartHolds xs rs ys k → k ≤ length xs - width
+part-fits xs rs {ys} {k} l =
+    let part = take (length xs - width) (drop width xs) in
+    omega (arith, l .count, take-most (length part / width) rs, ap length (to-end width xs), length-drop width xs)
 
 -- A report's numbers as the code has them.
 pub four-numbers : (m : Report) (r : Numbers) → r ≡ reportOf m
@@ -92,7 +112,8 @@ module _ (s : List ℕ) (place : ℕ) where
   all : List Report
   all = scan judge place outside (drop place s)
 
-  pub fills-part : (old part : List ℕ) (n : ℕ) → (most * width) < length old → Holds (fitting (take (most * width) old) (scan judge place outside (drop place s))) (take (most * width) old) part n
+  pub fills-part : (old part : List ℕ) (n : ℕ) → (most * width) < length old
+      → Holds (fitting (take (most * width) old) (scan judge place outside (drop place s))) (take (most * width) old) part n
       → Holds (made s place old) old (part ++ drop (most * width) old) n
   unfolding made all
   fills-part old part n h l =
@@ -105,15 +126,17 @@ module _ (s : List ℕ) (place : ℕ) where
       sym (drop-append-le (width * m) (take (most * width) old) (drop (most * width) old) fits) ∙ ap (drop (width * m)) (take-append-drop (most * width) old) in
       record {
         count = rw same (rw lent at (l .count));
-        numbers = rw same (rw (rw lent at (l .numbers), append-assoc (flat (take most all)) (drop (width * m) (take (most * width) old)) (drop (most * width) old), kept) refl);
+        numbers =
+            let joined = append-assoc (flat (take most all)) (drop (width * m) (take (most * width) old)) (drop (most * width) old) in
+            rw same (rw (rw lent at (l .numbers), joined, kept) refl);
       }
 
   pub fills-whole : (old new : List ℕ) (n : ℕ) → length old ≤ (most * width) → Holds (fitting old (scan judge place outside (drop place s))) old new n
       → Holds (made s place old) old new n
   unfolding made
   fills-whole old new n h l =
-      let rs = scan judge place outside (drop place s) in
-      let same : take most (take (length old / width) rs) ≡ take (length old / width) rs = take-all most (take (length old / width) rs) (omega (arith, take-most (length old / width) rs)) in
+      let rs = take (length old / width) (scan judge place outside (drop place s)) in
+      let same : take most rs ≡ rs = take-all most rs (omega (arith, take-most (length old / width) (scan judge place outside (drop place s)))) in
       record { count = rw same (l .count); numbers = rw same (l .numbers) }
 
 -- The last report's end stands at the second of its four numbers.

@@ -17,7 +17,8 @@ use Rattle.answers.specs.Lists.{All}
 use Rattle.answers.specs.Table.{Row, row, says, Verdict, done, refused, first, outcome, outcomeOf, four, Silent}
 use Rattle.answers.specs.Effect.{Effect, tested, changed, written, Keeps, Decides}
 use Rattle.answers.proofs.Lists.{all-append, all-weaken}
-use Rattle.answers.proofs.Rows.{Refusals, numberOf, Heard, nothing, something, heard, first-append, first-passed, passed-over, done-passed, given-first, first-given, row-equal, first-number, tested-passed, decides}
+use Rattle.answers.proofs.Rows.{Refusals, numberOf, Heard, nothing, something, heard, first-append, first-passed}
+use Rattle.answers.proofs.Rows.{passed-over, done-passed, given-first, first-given, row-equal, first-number, tested-passed, decides}
 use Rattle.answers.proofs.Effects.{changed-decides, changed-keeps, written-decides, written-keeps}
 use Rattle.frames.specs.Bytes.{body}
 use Rattle.frames.specs.Stream.{Report, Reading, packedIn, readInto, readReport, messageAt, firstFrom, walk, read, reports}
@@ -37,7 +38,8 @@ use Rattle.messages.proofs.Numbers.{IsDone, made, record-done, message-refusals
 use Rattle.reading.specs.code.Told.{reportOr, walked, reads}
 use Rattle.writing.specs.declared.BankOutcome.{BankOutcome}
 use Rattle.writing.specs.Writing.{writing, writingBank, bankFrom, firstBad, orLater, unlessBad}
-use Rattle.theorems.specs.Answers.{fromStart, isEmpty, found, complete, recordIn, opcodeIn, walkRows, thenRoom, Answered, patchesRows, bankBytes, bankTable, patchAt, PlaceOf, refused-patch, no-patch, Demand1}
+use Rattle.theorems.specs.Answers.{fromStart, isEmpty, found, complete, recordIn, opcodeIn, walkRows, thenRoom}
+use Rattle.theorems.specs.Answers.{Answered, patchesRows, bankBytes, bankTable, patchAt, PlaceOf, refused-patch, no-patch, Demand1}
 
 -- The walk finds nothing, and the first row says so; or it finds a message, and its verdict is that of the rows.
 data Found (s : List ℕ) (place : ℕ) : Type 0 where
@@ -201,7 +203,8 @@ module _ (s : List ℕ) (place : ℕ) (lent : List ℕ) where
       let v = first (walkRows l) (recordIn l) in
       let e = readInto (r .start) (r .end) v lent in
       let some-packed : (length (packedIn v) ≡ size) ⊎ (length (packedIn v) ≡ 0) =
-      ⊎-elim (λ (q : packedIn v ≡ packedIn (recordIn l)). inl (ap length q)) (λ (q : packedIn v ≡ []). inr (ap length q)) (packed-by (walkRows l) (recordIn l)) in
+      ⊎-elim (λ (q : packedIn v ≡ packedIn (recordIn l)). inl (ap length q)) (λ (q : packedIn v ≡ []). inr (ap length q))
+      (packed-by (walkRows l) (recordIn l)) in
       let kept = keeps-by (e .result .outcome .answer) (length (packedIn v)) size lent (e .lent) (reading-keeps (r .start) (r .end) v lent) some-packed in
       subst (λ (o : Option Report). Kept (readReport judge (length s) o lent)) (sym e₁)
       (subst (λ (w : Verdict). Kept (readInto (r .start) (r .end) w lent)) (sym e₂) kept)
@@ -274,7 +277,8 @@ unfolding naming
 name-answered p text =
     let new = map stored text ++ drop 8 p in
     let a : Refusals (nameRows p text) = (omega arith, (omega arith, (omega arith, field-refusals p))) in
-    let eight : Silent (nameRows p text) → drop 8 new ≡ drop 8 p = λ s. drop-at (map stored text) (drop 8 p) 8 (length-map text stored ∙ row-equal 7 (length text) 8 (s .1 .0)) in
+    let eight : Silent (nameRows p text) → drop 8 new ≡ drop 8 p =
+    λ s. drop-at (map stored text) (drop 8 p) 8 (length-map text stored ∙ row-equal 7 (length text) 8 (s .1 .0)) in
     record { decides = changed-decides 0 new p (nameRows p text) a; keeps = changed-keeps 0 new p 8 (nameRows p text) eight a }
 
 -- A bank with no bad patch: the patches' rows say nothing. With one: they refuse by it.
@@ -415,7 +419,8 @@ demand-1 = record {
       all-weaken (λ r. walk judge s (r .start) ≡ some r)
       (λ r. let l = found s (r .start) in Decides (walkRows l) (opcodeIn l) (outcomeOf (r .verdict)))
       (λ r e. let l = found s (r .start) in
-      decides-by (walkRows l) (recordIn l) _ (record-made l) (walk-refusals l) (sym (ap (λ (o : Option Report). reportOr (length s) o .outcome) e) ∙ walk-outcome s (r .start)))
+      decides-by (walkRows l) (recordIn l) _ (record-made l) (walk-refusals l)
+      (sym (ap (λ (o : Option Report). reportOr (length s) o .outcome) e) ∙ walk-outcome s (r .start)))
       (reports judge s) (reread judge s);
   nowhere = not-found;
   read = read-answered;

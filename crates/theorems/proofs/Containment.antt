@@ -62,10 +62,12 @@ module _ (before d behind : List ℕ) (m : List Report) (laid : Laid before d be
   whole-parts = rw (parts .before, parts .within, parts .behind) (laid .whole)
 
   -- Counted back, the reports after depend on the bytes behind alone.
-  after-back : map (countedBack (length (stream before d behind))) (reportsAfter before d behind) ≡ map (countedBack (length behind)) (scan judge 0 outside behind)
+  after-back : map (countedBack (length (stream before d behind))) (reportsAfter before d behind)
+      ≡ map (countedBack (length behind)) (scan judge 0 outside behind)
   after-back =
       rw (parts .behind)
-      (scan-back (length (stream before d behind)) (length before + length d) behind (omega (arith, length-append before (d ++ behind), length-append d behind)))
+      (scan-back (length (stream before d behind)) (length before + length d) behind
+      (omega (arith, length-append before (d ++ behind), length-append d behind)))
 
   -- Readings of the reports after, counted back.
   read-back : (lent : List ℕ) → map (readingBack (length (stream before d behind))) (readings (stream before d behind) lent (reportsAfter before d behind))

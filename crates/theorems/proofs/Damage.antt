@@ -107,7 +107,9 @@ module _ (k : Dump) (filed : Filed (ofDump k)) (patch : k .packed ≡ aPatch) (n
   head-data : All DataByte head
   head-data =
       let small = seven-bits (ofDump k) filed in
-      (kind-is dataByte 0x10 (omega arith), (kind-is dataByte 0x06 (omega arith), (kind-is dataByte (k .opcode) (small .0), (kind-is dataByte n (small .1 n number), tt))))
+      let maker = kind-is dataByte 0x10 (omega arith) in
+      let device = kind-is dataByte 0x06 (omega arith) in
+      (maker, (device, (kind-is dataByte (k .opcode) (small .0), (kind-is dataByte n (small .1 n number), tt))))
 
   -- A dump of another length.
   short : (w : List ℕ) → (length w ≡ 269 → ⊥) → Refused (judge (framed (head ++ w)))

@@ -1,4 +1,5 @@
--- Demand 2. What a writer takes, reading tests and accepts, wherever the message stands; what reading accepts is what the writer of its kind writes from the record.
+-- Demand 2. What a writer takes, reading tests and accepts, wherever the message stands; what reading accepts is what the writer of its kind
+-- writes from the record.
 use mathlib.Core.Path.{_≡_, ap, sym, _∙_, subst, refl}
 use mathlib.Core.Bool.{Bool, true, false}
 use mathlib.Core.List.{List, [], _∷_, _++_}

@@ -1,5 +1,7 @@
 -- The starred examples of document 01, each computed from the definitions.
 use mathlib.Core.Path.{refl}
+use lib.ListN.{drop}
+use Rattle.answers.specs.Lists.{All}
 use Rattle.nibbles.specs.Nibbles.{nibbles, total, sum}
 use Rattle.fields.specs.Fields.{fields, between, inRange, searchFrom, placeOf}
 use Rattle.patch.specs.Patch.{outFrom, halfUsed, halfFrom}
@@ -10,9 +12,11 @@ use Rattle.messages.specs.Kinds.{kindOf}
 use Rattle.messages.specs.Judge.{judge}
 use Rattle.messages.specs.Layout.{dump}
 use Rattle.writing.specs.Writing.{writing}
-use Rattle.theorems.specs.Examples.{Starred}
+use Rattle.theorems.specs.Examples.{Computes, starred, Starred}
 
 pub starred-hold : Starred
 unfolding nibbles total sum fields between inRange searchFrom placeOf outFrom halfUsed halfFrom stored anyOutside naming valueOf
     extended storedFor editRows busRows withBus applying applyingBus kindOf judge dump writing
-starred-hold = (refl, (refl, (refl, (refl, (refl, (refl, (refl, (refl, (refl, (refl, (refl, (refl, (refl, (refl, (refl, (refl, (refl, (refl, (refl, (refl, (refl, (refl, (refl, (refl, (refl, tt)))))))))))))))))))))))))
+starred-hold =
+    let others : All Computes (drop 12 starred) = (refl, (refl, (refl, (refl, (refl, (refl, (refl, (refl, (refl, (refl, (refl, (refl, (refl, tt))))))))))))) in
+    (refl, (refl, (refl, (refl, (refl, (refl, (refl, (refl, (refl, (refl, (refl, (refl, others))))))))))))

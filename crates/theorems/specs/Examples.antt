@@ -70,7 +70,8 @@ bus b s a d = b ∷ s ∷ a ∷ d ∷ []
 abbrev pub starred : List Example
 starred =
     -- P as number 0: place 157 is 01H, the sum at 273 is 01H, place 274 is F7H, all other data zero.
-    gives (as-number-0 P) (effect (outcome 0 275) (zerosBut 275 ((0, 0xF0) ∷ (1, 0x10) ∷ (2, 0x06) ∷ (3, 0x01) ∷ (157, 0x01) ∷ (273, 0x01) ∷ (274, 0xF7) ∷ []))) ∷
+    gives (as-number-0 P)
+    (effect (outcome 0 275) (zerosBut 275 ((0, 0xF0) ∷ (1, 0x10) ∷ (2, 0x06) ∷ (3, 0x01) ∷ (157, 0x01) ∷ (273, 0x01) ∷ (274, 0xF7) ∷ []))) ∷
     -- P named `BASS 1` with two spaces behind: bytes 2, 1, 19, 19, 32, 49, 32, 32; sum 3BH.
     gives (naming P bass)
     (effect (outcome 0 0) (zerosBut size ((0, 2) ∷ (1, 1) ∷ (2, 19) ∷ (3, 19) ∷ (4, 32) ∷ (5, 49) ∷ (6, 32) ∷ (7, 32) ∷ (76, 1) ∷ []))) ∷

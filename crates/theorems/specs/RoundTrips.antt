@@ -1,4 +1,5 @@
--- Demand 2: what is written and read back is the same, what is accepted and written again is the same less its real-time bytes, and an edit changes its own field alone.
+-- Demand 2: what is written and read back is the same, what is accepted and written again is the same less its real-time bytes, and an edit
+-- changes its own field alone.
 use mathlib.Core.Path.{_≡_}
 use mathlib.Core.List.{List, [], _∷_, _++_}
 use mathlib.Core.Option.{some}
@@ -90,7 +91,8 @@ ReadWrittenAgain = (s : List ℕ) (place : ℕ) (lent : List ℕ) → read judge
 abbrev pub bankReports : ℕ → ℕ → ℕ → List ℕ → List Report
 bankReports place zero k ps = []
 bankReports place (suc n) k ps =
-    report (place + k * singlePatch .length) (place + (k + 1) * singlePatch .length) (recordFor (ofDump singlePatch) (k ∷ []) (take size (drop (k * size) ps))) ∷ bankReports place n (k + 1) ps
+    report (place + k * singlePatch .length) (place + (k + 1) * singlePatch .length)
+    (recordFor (ofDump singlePatch) (k ∷ []) (take size (drop (k * size) ps))) ∷ bankReports place n (k + 1) ps
 
 -- The bytes that the writer of a bank put at the start of an output.
 abbrev pub bankSent : List ℕ → List ℕ → List ℕ

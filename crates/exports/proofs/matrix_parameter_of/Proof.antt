@@ -12,7 +12,9 @@ returns c =
     parameter-told (parameterOf (call .before .args .place)) _ _ (found .parameter .given .1) (call .parameter-of .ensures)
 
 returns-2 : tie.Need-returns-2
-returns-2 c = let call = c .before .before in parameter-told (parameterOf (call .before .args .place)) _ _ (c .enum-told .given .1) (call .parameter-of .ensures)
+returns-2 c =
+    let call = c .before .before in
+    parameter-told (parameterOf (call .before .args .place)) _ _ (c .enum-told .given .1) (call .parameter-of .ensures)
 
 pub matrix-parameter-of-spec : {M : Type 1} → statement M
 matrix-parameter-of-spec =

@@ -12,7 +12,9 @@ returns c =
     place-told (placeOf (call .before .args .parameter)) _ _ (found .place .given .1) (call .place-of .ensures)
 
 returns-2 : tie.Need-returns-2
-returns-2 c = let call = c .before .before in place-told (placeOf (call .before .args .parameter)) _ _ (c .enum-told .given .1) (call .place-of .ensures)
+returns-2 c =
+    let call = c .before .before in
+    place-told (placeOf (call .before .args .parameter)) _ _ (c .enum-told .given .1) (call .place-of .ensures)
 
 pub matrix-place-of-spec : {M : Type 1} → statement M
 matrix-place-of-spec =

@@ -14,7 +14,8 @@ use Rattle.frames.proofs.find_end.Tie as tie
 
 abbrev Inv-loop : tie.InvT-loop
 Inv-loop rest i₀ noise₀ i noise =
-    (i ≤ length rest) × (noise ≤ i) × (length (body rest) ≡ i + length (body (drop i rest))) × (realTimeIn (body rest) ≡ noise + realTimeIn (body (drop i rest)))
+    (i ≤ length rest) × (noise ≤ i)
+    × (length (body rest) ≡ i + length (body (drop i rest))) × (realTimeIn (body rest) ≡ noise + realTimeIn (body (drop i rest)))
 
 abbrev μ-loop : tie.MeasureT-loop
 μ-loop rest i₀ noise₀ i noise = length rest - i
@@ -40,7 +41,8 @@ loop-again-2 c =
     omega (arith, ap length e, ap realTimeIn e ∙ real-time-more (getD s i 0) (body (drop (i + 1) s)) (c .if2 .taken))
 
 -- Where nothing is left of the body, the counts are whole, and what stands there is how the message ends.
-counted : (t : List ℕ) (i noise e : ℕ) (u : List ℕ) → u ≡ [] → length (body t) ≡ i + length u → realTimeIn (body t) ≡ noise + realTimeIn u → endingOf (drop i t) ≡ e
+counted : (t : List ℕ) (i noise e : ℕ) (u : List ℕ) → u ≡ []
+    → length (body t) ≡ i + length u → realTimeIn (body t) ≡ noise + realTimeIn u → endingOf (drop i t) ≡ e
     → _≡_ {A = Span} (record { length = i; noise = noise; ending = e }) (spanOf t)
 unfolding spanOf
 counted t i noise e u none l n end =

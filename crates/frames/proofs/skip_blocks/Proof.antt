@@ -1,4 +1,4 @@
--- `skip_blocks` passes block after block that has no F0H.
+-- `skip_blocks` passes block after block that has no F0H: behind each, what is left to count starts there.
 use Prim.Native.Nat.{_-_}
 use native.Mathlib.Omega.{arith}
 use lib.ListN.{length}

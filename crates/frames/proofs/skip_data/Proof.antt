@@ -1,4 +1,4 @@
--- `skip_data` passes block after block of data bytes.
+-- `skip_data` passes block after block of data bytes: behind each, what is left of the body starts there.
 use Prim.Native.Nat.{_-_}
 use native.Mathlib.Omega.{arith}
 use lib.ListN.{length}

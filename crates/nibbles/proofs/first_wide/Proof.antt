@@ -29,7 +29,8 @@ returns-2 : tie.Need-returns-2 Inv-loop μ-loop
 returns-2 c =
     let sent = c .before .before .before .before .before .before .before .args .sent .now in
     let at = c .before .before .before .loop in
-    let here : wideFrom (at .i) (drop (at .i) sent) ≡ some (at .i) = rw (drop-cons sent (at .i) 0 (c .before .before .loop-test .taken)) (wide-here (at .i) _ _ (omega arith)) in
+    let i = at .i in
+    let here : wideFrom i (drop i sent) ≡ some i = rw (drop-cons sent i 0 (c .before .before .loop-test .taken)) (wide-here i _ _ (omega arith)) in
     ap foundWide (sym (at .inv .1 ∙ here))
 
 loop-again : tie.Need-loop-again Inv-loop μ-loop

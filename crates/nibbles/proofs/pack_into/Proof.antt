@@ -38,7 +38,8 @@ returns-4 : tie.Need-returns-4
 returns-4 c =
     let told = c .before .before .before .before .before .before in
     let args = told .before .before .before .before .before .before .args in
-    rw (packing-done (args .sent .now) (args .out .now) (told .before .before .before .if1 .left) (nowhere told) (c .before .before .before .before .before .if2 .left))
+    let even = told .before .before .before .if1 .left in
+    rw (packing-done (args .sent .now) (args .out .now) even (nowhere told) (c .before .before .before .before .before .if2 .left))
     (record { result = c .done .ensures; lent = c .before .before .before .put-packed .ensures })
 
 pub pack-into-spec : {M : Type 1} → statement M

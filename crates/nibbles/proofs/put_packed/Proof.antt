@@ -1,31 +1,30 @@
 -- `put_packed` writes the packed bytes at the start of the output. The invariant: the output is the packed bytes of the pairs passed, then its
 -- old bytes. That no nibble is wide keeps each packed byte below 256.
-use mathlib.Core.Path.{_≡_, refl, _∙_}
-use mathlib.Core.List.{List, _++_}
-use Prim.Native.Nat.{ℕ, _+_, _-_, _*_, _/_, _≤_, _<_}
+use mathlib.Core.Path.{_≡_, refl, sym, ap, _∙_}
+use mathlib.Core.List.{List, [], _∷_, _++_}
+use Prim.Native.Nat.{ℕ, _+_, _-_, _*_, _/_, _<_, _≤_}
 use native.Mathlib.Omega.{arith}
-use lib.ListN.{length, getD, take, drop, set, length-set}
+use lib.ListN.{length, getD, take}
 use lib.Seq.{length-take-le}
-use Rattle.answers.proofs.Lists.{put-next, all-get}
+use Rattle.answers.proofs.Lists.{all-get}
+use Rattle.answers.proofs.Copied.{Copied, copied-next}
 use Rattle.nibbles.specs.Nibbles.{pack}
 use Rattle.nibbles.proofs.Laws.{length-pack, pack-take, pack-whole, wide-none}
 use Rattle.nibbles.proofs.Passing.{word-packed}
 use Rattle.nibbles.proofs.put_packed.Statement.{statement}
 use Rattle.nibbles.proofs.put_packed.Tie as tie
 
+abbrev passed : List ℕ → ℕ → List ℕ
+passed sent i = pack (take (2 * i) sent)
+
 abbrev Inv-loop : tie.InvT-loop
-Inv-loop sent out₀ n i₀ out i = (i ≤ n) × (length out ≡ length out₀) × (out ≡ pack (take (2 * i) sent) ++ drop i out₀)
+Inv-loop sent out₀ n i₀ out i = Copied (passed sent) n out₀ out i
 
 abbrev μ-loop : tie.MeasureT-loop
 μ-loop sent out₀ n i₀ out i = n - i
 
--- One pair more.
-step : (s o₀ o : List ℕ) (i x : ℕ) → x ≡ getD s (2 * i) 0 + 16 * getD s (2 * i + 1) 0 → i < length s / 2 → length s / 2 ≤ length o₀ → o ≡ pack (take (2 * i) s) ++ drop i o₀
-    → set o i x ≡ pack (take (2 * (i + 1)) s) ++ drop (i + 1) o₀
-step s o₀ o i x byte h room e =
-    let A = pack (take (2 * i) s) in
-    let la : length A ≡ i = omega (arith, length-pack (take (2 * i) s), length-take-le (2 * i) s (omega arith)) in
-    rw (e, byte, put-next A o₀ i (getD s (2 * i) 0 + 16 * getD s (2 * i + 1) 0) la (omega arith), pack-take s i (omega arith))
+long : (s : List ℕ) (i : ℕ) → i ≤ length s / 2 → length (passed s i) ≡ i
+long s i h = omega (arith, length-pack (take (2 * i) s), length-take-le (2 * i) s (omega arith))
 
 loop-holds : tie.Need-loop-holds Inv-loop μ-loop
 unfolding pack
@@ -45,18 +44,19 @@ narrow c =
 loop-again : tie.Need-loop-again Inv-loop μ-loop
 loop-again c =
     let start = c .before .before .before .before in
+    let s = start .args .sent .now in
     let at = c .before .before .before .loop in
-    let both = narrow c in (
-      omega arith,
-      simp length-set (omega arith),
-      step (start .args .sent .now) (start .args .out .now) (at .out) (at .i) _ (word-packed _ _ (both .0) (both .1)) (c .before .before .loop-test .taken) (start .pre .1) (at .inv .2),
-    )
+    let i = at .i in
+    let byte = word-packed (getD s (2 * i) 0) (getD s (2 * i + 1) 0) (narrow c .0) (narrow c .1) in
+    let more = pack-take s i (omega arith) ∙ ap (λ (x : ℕ). passed s i ++ (x ∷ [])) (sym byte) in
+    copied-next (passed s) (length s / 2) (start .args .out .now) (at .out) i (at .inv) (omega arith) i (_ ∷ [])
+    (long s i (omega arith)) more (omega (arith, start .pre .1))
 
 returns : tie.Need-returns Inv-loop μ-loop
 returns c =
     let sent = c .before .before .args .sent .now in
     let e : c .before .loop .i ≡ length sent / 2 = omega arith in
-    c .before .loop .inv .2 ∙ rw (e, pack-whole sent)
+    c .before .loop .inv .2 ∙ rw (e, long sent (length sent / 2) (omega arith), pack-whole sent)
 
 pub put-packed-spec : {M : Type 1} → statement M
 put-packed-spec =

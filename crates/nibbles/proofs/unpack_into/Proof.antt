@@ -14,7 +14,8 @@ returns c =
 returns-2 : tie.Need-returns-2
 returns-2 c =
     let args = c .before .before .before .before .before .before .before .before .args in
-    rw (unpacking-done (args .bytes .now) (args .out .now) (omega arith)) (record { result = c .done .ensures; lent = c .before .before .before .put-nibbles .ensures })
+    rw (unpacking-done (args .bytes .now) (args .out .now) (omega arith))
+    (record { result = c .done .ensures; lent = c .before .before .before .put-nibbles .ensures })
 
 pub unpack-into-spec : {M : Type 1} → statement M
 unpack-into-spec =

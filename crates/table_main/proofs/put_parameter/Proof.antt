@@ -12,11 +12,15 @@ told : (c : tie.After-parameter-of) → parameterText (parameterOf (c .before .b
 told c = let p = c .parameter-of in found-text (parameterOf (c .before .before .args .place)) (p .result) (p .ensures)
 
 returns : tie.Need-returns
-returns c = rw (told (c .before .before .before .before .before .before .before .before), c .before .before .before .before .before .before .found .given .1) (c .before .before .put-number .ensures)
+returns c =
+    let found = c .before .before .before .before .before .before in
+    rw (told (found .before .before), found .found .given .1) (c .before .before .put-number .ensures)
 
 returns-2 : tie.Need-returns-2
 unfolding ascii
-returns-2 c = rw (told (c .before .before .before .before .before .before .before), c .before .before .before .before .before .enum-told .given .1) (c .before .before .put .ensures)
+returns-2 c =
+    let none = c .before .before .before .before .before in
+    rw (told (none .before .before), none .enum-told .given .1) (c .before .before .put .ensures)
 
 pub put-parameter-spec : {M : Type 1} → statement M
 put-parameter-spec =

@@ -11,7 +11,8 @@ use Rattle.table_main.proofs.put_table.Statement.{statement}
 use Rattle.table_main.proofs.put_table.Tie as tie
 
 abbrev Inv-loop : tie.InvT-loop
-Inv-loop room₀ end₀ place₀ room end place = (length room ≡ length room₀) × (place ≤ places) × Underway tableText (tableRows (places - place) place) room₀ 0 room end
+Inv-loop room₀ end₀ place₀ room end place =
+    (length room ≡ length room₀) × (place ≤ places) × Underway tableText (tableRows (places - place) place) room₀ 0 room end
 
 abbrev μ-loop : tie.MeasureT-loop
 μ-loop room₀ end₀ place₀ room end place = places - place

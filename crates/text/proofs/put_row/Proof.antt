@@ -11,7 +11,8 @@ use Rattle.text.proofs.put_row.Statement.{statement}
 use Rattle.text.proofs.put_row.Tie as tie
 
 abbrev Inv-loop : tie.InvT-loop
-Inv-loop room₀ at numbers end₀ i₀ room end i = (length room ≡ length room₀) × (i ≤ length numbers) × Underway (row numbers) (row (drop i numbers)) room₀ at room end
+Inv-loop room₀ at numbers end₀ i₀ room end i =
+    (length room ≡ length room₀) × (i ≤ length numbers) × Underway (row numbers) (row (drop i numbers)) room₀ at room end
 
 abbrev μ-loop : tie.MeasureT-loop
 μ-loop room₀ at numbers end₀ i₀ room end i = length numbers - i

@@ -43,10 +43,11 @@ loop-again c =
     let written = c .before .before .put-dump in
     let at = c .before .before .before .before .before .before .loop in
     let start = c .before .before .before .before .before .before .before .before .before in
+    let new = written .last .1 .1 .1 .0 in
     let one : at .k * 134 + 134 - at .k * 134 ≡ 134 = omega arith in (
       omega arith,
-      same-len-mid (at .k * 275) (length (at .out) - at .k * 275) (at .out) (written .last .1 .1 .1 .0) (written .kept .1 .1 .1 .0) ∙ at .inv .1,
-      step (start .args .ps .now) (start .args .out .now) (at .out) (written .last .1 .1 .1 .0) (at .k) (omega (arith, start .pre)) (omega (arith, start .pre)) (at .inv .2)
+      same-len-mid (at .k * 275) (length (at .out) - at .k * 275) (at .out) new (written .kept .1 .1 .1 .0) ∙ at .inv .1,
+      step (start .args .ps .now) (start .args .out .now) (at .out) new (at .k) (omega (arith, start .pre)) (omega (arith, start .pre)) (at .inv .2)
           (rw one at (written .ensures)),
     )
 

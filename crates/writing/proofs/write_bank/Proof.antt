@@ -57,15 +57,18 @@ returns-3 c =
 returns-4 : tie.Need-returns-4
 returns-4 c =
     let t = c .before .before .before .before .before in
+    let told = rw (c .before .refused3 .ensures) at (c .no-place3 .ensures) in
     rw (all-tested t (c .before .before .before .if3 .left))
-    (bank-short (bytes t) (out t) (count t * 275) (c .no-place3 .result) (size t) (c .before .before .if4 .taken) (rw (c .before .refused3 .ensures) at (c .no-place3 .ensures)))
+    (bank-short (bytes t) (out t) (count t * 275) (c .no-place3 .result) (size t) (c .before .before .if4 .taken) told)
 
 returns-5 : tie.Need-returns-5
 returns-5 c =
-    let t = c .before .before .before .before .before .before .before .before .before in
-    rw (all-tested t (c .before .before .before .before .before .before .before .if3 .left))
-    (bank-written (bytes t) (out t) (c .before .before .before .before .put-bank .last .1 .0) (count t * 275) (c .no-place4 .result) (size t) (c .before .before .before .before .before .before .if4 .left) (c .before .before .before .before .put-bank .ensures)
-    (rw (c .before .done .ensures) at (c .no-place4 .ensures)))
+    let put = c .before .before .before .before in
+    let t = put .before .before .before .before .before in
+    let told = rw (c .before .done .ensures) at (c .no-place4 .ensures) in
+    rw (all-tested t (put .before .before .before .if3 .left))
+    (bank-written (bytes t) (out t) (put .put-bank .last .1 .0) (count t * 275) (c .no-place4 .result) (size t) (put .before .before .if4 .left)
+    (put .put-bank .ensures) told)
 
 pub write-bank-spec : {M : Type 1} → statement M
 write-bank-spec =

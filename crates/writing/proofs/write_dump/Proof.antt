@@ -1,7 +1,7 @@
 -- The dump and the room are tested in this order, and then the dump is written: each return is a case of `written`.
-use mathlib.Core.Path.{_≡_, _∙_}
+use mathlib.Core.Path.{_≡_}
 use mathlib.Core.List.{List}
-use Prim.Native.Nat.{ℕ, _+_, _*_}
+use Prim.Native.Nat.{ℕ}
 use native.Mathlib.Omega.{arith}
 use lib.ListN.{length}
 use borrow.Author.Needs.{needs}
@@ -59,10 +59,11 @@ fits c κs =
 
 returns-3 : tie.Need-returns-3
 returns-3 c =
-    let t = c .before .before .before .before .before .before .before .before .before in
-    let z = c .before .before .before .before .before .before .before .if1 .left in
-    gives-written (rows t) (bytes t) (out t) (c .before .before .before .put-dump .last .1 .1 .1 .0) (kind t .length) (c .done .result) (size t z) (silent t z) (c .before .before .before .before .before .if2 .left)
-    (c .done .ensures) (c .before .before .before .put-dump .ensures)
+    let put = c .before .before .before in
+    let t = put .before .before .before .before .before .before in
+    let z = put .before .before .before .before .if1 .left in
+    gives-written (rows t) (bytes t) (out t) (put .put-dump .last .1 .1 .1 .0) (kind t .length) (c .done .result) (size t z) (silent t z)
+    (put .before .before .if2 .left) (c .done .ensures) (put .put-dump .ensures)
 
 pub write-dump-spec : {M : Type 1} → statement M
 write-dump-spec =

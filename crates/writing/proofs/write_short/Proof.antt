@@ -3,7 +3,7 @@ use mathlib.Core.Path.{_≡_, refl, ap, _∙_}
 use mathlib.Core.List.{List, [], _∷_, _++_}
 use Prim.Native.Nat.{ℕ, _+_, _-_}
 use native.Mathlib.Omega.{arith}
-use lib.ListN.{length, take, drop, set, length-append, length-drop, length-set}
+use lib.ListN.{length, length-append, length-drop, length-set}
 use borrow.Author.Needs.{needs}
 use borrow.Rule.Slice.PartMut.{putMid, same-len-mid}
 use Rattle.answers.specs.Table.{Row, Silent}
@@ -65,44 +65,59 @@ returns-2 c =
 fits-at : tie.Need-put-opening-requires
 fits-at c κs = omega (arith, counted (c .before .before .before .before) (c .before .before .if1 .left), c .before .if2 .left)
 
+-- Behind the opening: what was tested, that the message fits, and the output so far.
+abbrev before : tie.After-put-opening → tie.After-test-operands
+before o = o .before .before .before .before .before
+
+long : (o : tie.After-put-opening) → kind (before o) .length ≡ 5 + length (bytes (before o))
+long o = counted (before o) (o .before .before .before .if1 .left)
+
+abbrev opened : tie.After-put-opening → List ℕ
+opened o = o .put-opening .last .1 .0
+
 start-at : tie.Need-sub-put-bytes
-start-at c = omega (arith, counted (c .before .before .before .before .before .before .before) (c .before .before .before .before .before .if1 .left), c .before .before .before .before .if2 .left, c .before .before .put-opening .kept .1 .0)
+start-at c = let o = c .before .before in omega (arith, long o, o .before .before .if2 .left, o .put-opening .kept .1 .0)
 
 bytes-fit : tie.Need-put-bytes-requires
 bytes-fit c κs =
-    let t = c .before .before .before .before .before .before .before .before in
-    let xs = c .before .before .before .put-opening .last .1 .0 in
-    omega (arith, ap length (to-end 4 xs), length-drop 4 xs, counted t (c .before .before .before .before .before .before .if1 .left), c .before .before .before .before .before .if2 .left, c .before .before .before .put-opening .kept .1 .0)
+    let o = c .before .before .before in
+    let xs = opened o in
+    omega (arith, ap length (to-end 4 xs), length-drop 4 xs, long o, o .before .before .if2 .left, o .put-opening .kept .1 .0)
 
 -- The output behind the opening and the bytes.
-abbrev after-bytes : tie.After-put-bytes → List ℕ
-after-bytes w = let xs = w .before .before .before .before .put-opening .last .1 .0 in putMid 4 (length xs - 4) xs (w .put-bytes .last .1 .0)
+abbrev opening-of : tie.After-put-bytes → tie.After-put-opening
+opening-of w = w .before .before .before .before
 
-same-long : (w : tie.After-put-bytes) → length (after-bytes w) ≡ length (w .before .before .before .before .before .before .before .before .before .before .before .before .args .out .now)
+abbrev after-bytes : tie.After-put-bytes → List ℕ
+after-bytes w = let xs = opened (opening-of w) in putMid 4 (length xs - 4) xs (w .put-bytes .last .1 .0)
+
+same-long : (w : tie.After-put-bytes) → length (after-bytes w) ≡ length (out (before (opening-of w)))
 same-long w =
-    let xs = w .before .before .before .before .put-opening .last .1 .0 in
-    same-len-mid 4 (length xs - 4) xs (w .put-bytes .last .1 .0) (w .put-bytes .kept .1 .0) ∙ w .before .before .before .before .put-opening .kept .1 .0
+    let o = opening-of w in
+    let xs = opened o in
+    same-len-mid 4 (length xs - 4) xs (w .put-bytes .last .1 .0) (w .put-bytes .kept .1 .0) ∙ o .put-opening .kept .1 .0
 
 closing-there : tie.Need-slice-write-out
-closing-there c =
-    let t = c .before .before .before .before .before .before .before .before .before .before .before in
-    omega (arith, counted t (c .before .before .before .before .before .before .before .before .before .if1 .left), c .before .before .before .before .before .before .before .before .if2 .left, same-long (c .before .before))
+closing-there c = let o = opening-of (c .before .before) in omega (arith, long o, o .before .before .if2 .left, same-long (c .before .before))
 
 same-length : tie.Need-same-length
-same-length c = let w = c .before .before .before in length-set (after-bytes w) (kind (c .before .before .before .before .before .before .before .before .before .before .before .before) .length - 1) 0xF7 ∙ same-long w
+same-length c =
+    let w = c .before .before .before in
+    length-set (after-bytes w) (kind (before (opening-of w)) .length - 1) 0xF7 ∙ same-long w
 
 returns-3 : tie.Need-returns-3
 unfolding writing
 returns-3 c =
-    let t = c .before .before .before .before .before .before .before .before .before .before .before .before in
-    let z = c .before .before .before .before .before .before .before .before .before .before .if1 .left in
     let w = c .before .before .before in
+    let o = opening-of w in
+    let t = before o in
+    let z = o .before .before .before .if1 .left in
+    let room = o .before .before .if2 .left in
     let n = 4 + length (bytes t) in
-    let room = c .before .before .before .before .before .before .before .before .before .if2 .left in
-    let long = counted t z in
+    let whole = long o in
     let parts =
-    then-part (opening t) (bytes t) (out t) (w .before .before .before .before .put-opening .last .1 .0) (w .put-bytes .last .1 .0) 4 (length (bytes t)) refl refl (omega arith)
-    (w .before .before .before .before .put-opening .ensures) (w .put-bytes .ensures) in
+    then-part (opening t) (bytes t) (out t) (opened o) (w .put-bytes .last .1 .0) 4 (length (bytes t)) refl refl (omega arith)
+    (o .put-opening .ensures) (w .put-bytes .ensures) in
     let end : kind t .length - 1 ≡ n = omega arith in
     let last : n + 1 ≡ length (message t) = omega (arith, size t z) in
     let lo : length (opening t ++ bytes t) ≡ n = omega (arith, length-append (opening t) (bytes t)) in
@@ -123,7 +138,7 @@ write-short-spec =
     start-at
     (λ c. search needs)
     bytes-fit
-    (λ c. omega (arith, counted (c .before .before .before .before .before .before .before .before .before .before .before) (c .before .before .before .before .before .before .before .before .before .if1 .left)))
+    (λ c. omega (arith, long (opening-of (c .before .before))))
     closing-there
     (λ c κs. search needs)
     same-length

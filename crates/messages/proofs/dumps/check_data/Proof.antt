@@ -16,15 +16,19 @@ returns-2 : tie.Need-returns-2
 returns-2 c =
     let at = c .before .before .before .before .before .before .before .before in
     let start = at .before .before .before .before in
+    let summed = c .before .before in
     check-sum (start .args .sent .now) (start .args .packed .now) (at .pack-into .last .1 .0) (at .pack-into .result) (start .pre) (at .pack-into .ensures)
-    (start .args .sum) (c .refused .result) (c .before .before .checksum .result) (c .before .before .before .before .if1 .left) (c .before .before .checksum .ensures) (c .before .if2 .taken) (c .refused .ensures)
+    (start .args .sum) (c .refused .result) (summed .checksum .result) (summed .before .before .if1 .left) (summed .checksum .ensures)
+    (c .before .if2 .taken) (c .refused .ensures)
 
 returns-3 : tie.Need-returns-3
 returns-3 c =
     let at = c .before .before .before .before .before .before .before .before in
     let start = at .before .before .before .before in
+    let summed = c .before .before in
     check-done (start .args .sent .now) (start .args .packed .now) (at .pack-into .last .1 .0) (at .pack-into .result) (start .pre) (at .pack-into .ensures)
-    (start .args .sum) (c .done .result) (c .before .before .checksum .result) (c .before .before .before .before .if1 .left) (c .before .before .checksum .ensures) (c .before .if2 .left) (c .done .ensures)
+    (start .args .sum) (c .done .result) (summed .checksum .result) (summed .before .before .if1 .left) (summed .checksum .ensures)
+    (c .before .if2 .left) (c .done .ensures)
 
 pub check-data-spec : {M : Type 1} → statement M
 check-data-spec =

@@ -6,7 +6,7 @@ use native.Mathlib.Omega.{arith}
 use lib.ListN.{length, take, drop, replicate, length-drop}
 use lib.Seq.{length-take-le}
 use borrow.Author.Needs.{needs}
-use Rattle.messages.specs.Kinds.{sizeOf, master}
+use Rattle.messages.specs.Kinds.{sizeOf}
 use Rattle.messages.proofs.dumps.check_packed.Statement.{statement}
 use Rattle.messages.proofs.dumps.check_packed.Tie as tie
 

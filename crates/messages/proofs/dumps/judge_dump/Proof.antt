@@ -1,4 +1,5 @@
--- `judge_dump` tests the length, the byte behind the opcode, then what `check_packed` tests: each return is what the rows of the description are answered.
+-- `judge_dump` tests the length, the byte behind the opcode, then what `check_packed` tests: each return is what the rows of the description
+-- are answered.
 use mathlib.Core.Path.{_≡_, refl, sym, _∙_}
 use mathlib.Core.Bool.{false}
 use mathlib.Core.List.{List, [], _∷_}
@@ -8,9 +9,9 @@ use lib.ListN.{getD}
 use borrow.Author.Needs.{needs}
 use Rattle.answers.specs.Table.{outcome, four}
 use Rattle.answers.specs.Effect.{tested}
-use Rattle.messages.specs.Kinds.{Behind, numberTo, always, Dump}
+use Rattle.messages.specs.Kinds.{Behind, numberTo, always, Dump, ofDump}
 use Rattle.messages.specs.Judge.{misnumbered, numberIn}
-use Rattle.messages.proofs.Verdicts.{kind-length, kind-stopped, kind-done, contentRows, of-dump}
+use Rattle.messages.proofs.Verdicts.{Judging, kind-length, kind-stopped, kind-done, contentRows, of-dump}
 use Rattle.messages.proofs.dumps.judge_dump.Statement.{statement}
 use Rattle.messages.proofs.dumps.judge_dump.Tie as tie
 
@@ -25,6 +26,11 @@ kind t = t .before .before .before .before .before .args .kind
 abbrev content : tie.After-wrong-number → List ℕ
 content t = t .before .before .before .before .before .args .content .now
 
+-- What the rows of the description come to.
+abbrev rows : (t : tie.After-wrong-number)
+    → Judging (ofDump (kind t)) (content t) (contentRows (kind t) (content t)) (four (numberIn (kind t .behind) (getD (content t) 3 0)))
+rows t = of-dump (kind t) (t .before .before .before .before .before .pre) (content t)
+
 number-there : tie.Need-shared-slice-read-number
 number-there c = omega (arith, c .before .before .before .before .pre .0, c .before .if1 .left)
 
@@ -33,10 +39,13 @@ returns-2 c =
     let t = c .before .before in
     let wrong = sym (t .wrong-number .ensures) ∙ c .before .if2 .taken in
     let said : outcome 8 0 ≡ tested (contentRows (kind t) (content t)) = rw wrong in
-    c .refused-by2 .ensures ∙ kind-stopped (of-dump (kind t) (t .before .before .before .before .before .pre) (content t)) (t .before .before .if1 .left) said (λ z. omega arith)
+    c .refused-by2 .ensures ∙ kind-stopped (rows t) (t .before .before .if1 .left) said (λ z. omega arith)
 
 long-enough : tie.Need-check-packed-requires
-long-enough c κs = let t = c .before in (omega (arith, t .before .before .before .before .before .pre .0, t .before .before .if1 .left), t .before .before .before .before .before .pre .1)
+long-enough c κs =
+    let t = c .before .before .before in
+    let start = t .before .before .before in
+    (omega (arith, start .pre .0, t .if1 .left), start .pre .1)
 
 -- The byte behind the opcode has passed: what the data and the packed bytes are answered is what the rows are.
 answered : (p : tie.After-check-packed) → p .check-packed .result ≡ tested (contentRows (kind (p .before .before)) (content (p .before .before)))
@@ -49,7 +58,7 @@ returns-3 : tie.Need-returns-3
 returns-3 c =
     let p = c .before .before .before in
     let t = p .before .before in
-    c .refused .ensures ∙ kind-stopped (of-dump (kind t) (t .before .before .before .before .before .pre) (content t)) (t .before .before .if1 .left) (answered p) (c .before .if3 .taken)
+    c .refused .ensures ∙ kind-stopped (rows t) (t .before .before .if1 .left) (answered p) (c .before .if3 .taken)
 
 -- The number is the first of the bytes that come with the answer, and the only one.
 number-only : (b : Behind) (n : ℕ) → getD (numberIn b n) 0 0 ∷ 0 ∷ 0 ∷ 0 ∷ [] ≡ four (numberIn b n)
@@ -62,7 +71,7 @@ returns-4 c =
     let t = p .before .before in
     c .accepted .ensures
     ∙ rw (c .before .number-of .ensures, number-only (kind t .behind) (getD (content t) 3 0))
-    (kind-done (of-dump (kind t) (t .before .before .before .before .before .pre) (content t)) (t .before .before .if1 .left) (answered p) (c .before .before .if3 .left))
+    (kind-done (rows t) (t .before .before .if1 .left) (answered p) (c .before .before .if3 .left))
 
 pub judge-dump-spec : {M : Type 1} → statement M
 judge-dump-spec =

@@ -1,17 +1,21 @@
 -- `judge_kind` judges by the kind that the opcode finds, which has the length that its parts add up to.
-use mathlib.Core.Path.{_≡_, _∙_, sym, subst}
+use mathlib.Core.Path.{_∙_, sym, subst}
 use borrow.Author.Needs.{needs}
-use Rattle.messages.specs.Kinds.{Kind, ofDump, ofShort, kindOf, Sized}
+use Rattle.messages.specs.Kinds.{Sized}
 use Rattle.messages.specs.Judge.{kindVerdict}
 use Rattle.messages.proofs.Filed.{kind-sized}
 use Rattle.messages.proofs.judging.judge_kind.Statement.{statement}
 use Rattle.messages.proofs.judging.judge_kind.Tie as tie
 
 judge-dump-requires : tie.Need-judge-dump-requires
-judge-dump-requires c κs = subst Sized (sym (c .before .before .before .kind-of .ensures) ∙ c .before .kind .given .1) (kind-sized (c .before .before .before .before .before .args .opcode))
+judge-dump-requires c κs =
+    let asked = c .before .before .before in
+    subst Sized (sym (asked .kind-of .ensures) ∙ c .before .kind .given .1) (kind-sized (asked .before .before .args .opcode))
 
 judge-short-requires : tie.Need-judge-short-requires
-judge-short-requires c κs = subst Sized (sym (c .before .before .before .kind-of .ensures) ∙ c .before .kind2 .given .1) (kind-sized (c .before .before .before .before .before .args .opcode))
+judge-short-requires c κs =
+    let asked = c .before .before .before in
+    subst Sized (sym (asked .kind-of .ensures) ∙ c .before .kind2 .given .1) (kind-sized (asked .before .before .args .opcode))
 
 returns : tie.Need-returns
 returns c = rw (← (c .before .before .before .before .kind-of .ensures), c .before .before .kind .given .1) (c .judge-dump .ensures)

@@ -28,7 +28,28 @@ returns-5 c = rw (c .if5 .taken)
 returns-6 : tie.Need-returns-6
 unfolding kindOf
 returns-6 c =
-    simp (ne-eqb _ _ (c .before .before .before .before .if1 .left), ne-eqb _ _ (c .before .before .before .if2 .left), ne-eqb _ _ (c .before .before .if3 .left), ne-eqb _ _ (c .before .if4 .left), ne-eqb _ _ (c .if5 .left))
+    let third = c .before .before in
+    let first = third .before .before in
+    simp (
+      ne-eqb _ _ (first .if1 .left),
+      ne-eqb _ _ (third .before .if2 .left),
+      ne-eqb _ _ (third .if3 .left),
+      ne-eqb _ _ (c .before .if4 .left),
+      ne-eqb _ _ (c .if5 .left),
+    )
 
 pub kind-of-spec : {M : Type 1} → statement M
-kind-of-spec = tie.close (tie.spec (λ c. search needs) returns (λ c. search needs) returns-2 (λ c. search needs) returns-3 (λ c. search needs) returns-4 (λ c. search needs) returns-5 returns-6)
+kind-of-spec =
+    tie.close
+    (tie.spec
+    (λ c. search needs)
+    returns
+    (λ c. search needs)
+    returns-2
+    (λ c. search needs)
+    returns-3
+    (λ c. search needs)
+    returns-4
+    (λ c. search needs)
+    returns-5
+    returns-6)

@@ -4,7 +4,9 @@ use Rattle.messages.proofs.shorts.first_four.Statement.{statement}
 use Rattle.messages.proofs.shorts.first_four.Tie as tie
 
 returns : tie.Need-returns
-returns c = rw (c .before .before .before .byte-or-zero .ensures, c .before .before .byte-or-zero2 .ensures, c .before .byte-or-zero3 .ensures, c .byte-or-zero4 .ensures)
+returns c =
+    let second = c .before .before in
+    rw (second .before .byte-or-zero .ensures, second .byte-or-zero2 .ensures, c .before .byte-or-zero3 .ensures, c .byte-or-zero4 .ensures)
 
 pub first-four-spec : {M : Type 1} → statement M
 first-four-spec =

@@ -43,7 +43,9 @@ returns-2 : tie.Need-returns-2
 returns-2 c = rw (c .before .before .before .enum-told .given .1, eq-eqb _ 2 (edit-counted (c .before .before .before))) (c .test-edit .ensures)
 
 returns-3 : tie.Need-returns-3
-returns-3 c = rw (c .before .before .before .before .before .enum-told2 .given .1, eq-eqb _ 4 (bus-counted (c .before .before .before .before .before))) (c .test-bus-edit .ensures)
+returns-3 c =
+    let told = c .before .before .before .before .before in
+    rw (told .enum-told2 .given .1, eq-eqb _ 4 (bus-counted told)) (c .test-bus-edit .ensures)
 
 pub test-operands-spec : {M : Type 1} → statement M
 test-operands-spec =

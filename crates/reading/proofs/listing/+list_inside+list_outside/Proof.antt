@@ -1,22 +1,22 @@
 -- The two states list the reports of the scan: each call hands on a shorter rest. From outside the scan goes on at the next F0H; from
 -- inside it gives the message, then goes on behind the byte that ended it. The room taken by a report is handed on with the rest.
-use mathlib.Core.Path.{_≡_, ap, _∙_}
+use mathlib.Core.Path.{_≡_, refl, ap, _∙_}
 use mathlib.Core.List.{List, [], _++_}
-use Prim.Native.Nat.{ℕ, suc, _+_, _-_, _<_, _≤_}
+use Prim.Native.Nat.{ℕ, suc, _+_, _<_, _≤_}
 use native.Mathlib.Omega.{arith}
-use lib.ListN.{length, take, drop, length-drop}
+use lib.ListN.{length, drop}
 use borrow.Author.Needs.{needs}
 use borrow.Fn.Kinds.{In}
 use borrow.Fn.PlainCycle.{Measures, is, falls, and}
 use Rattle.answers.proofs.Lists.{to-end}
 use Rattle.frames.specs.Bytes.{body}
-use Rattle.frames.specs.Stream.{messageAt}
-use Rattle.frames.specs.Scan.{outside, inside, scan}
+use Rattle.frames.specs.Stream.{Report, messageAt}
+use Rattle.frames.specs.Scan.{outside, inside}
 use Rattle.frames.proofs.Handing.{outside-none, outside-found, inside-again, inside-left, inside-cut}
 use Rattle.messages.specs.Judge.{judge}
-use Rattle.reading.specs.code.Rooms.{numbersOf, width, fitting, Holds}
+use Rattle.reading.specs.code.Rooms.{numbersOf, width}
 use Rattle.reading.proofs.Spans.{span-length}
-use Rattle.reading.proofs.Rooms.{lists-full, lists-none, lists-one, lists-more, lists-fits, four-numbers}
+use Rattle.reading.proofs.Rooms.{lists-full, lists-none, lists-one, PartHolds, part-fits, lists-on, four-numbers}
 use Rattle.reading.proofs.listing.list_inside.Reads as list-inside
 use Rattle.reading.proofs.listing.list_inside.Kinds as list-inside-kinds
 use Rattle.reading.proofs.listing.+list_inside+list_outside.Lts-list_inside as list-inside-lts
@@ -72,100 +72,81 @@ list-inside-returns t c = lists-full _ (c .before .before .before .args .room .n
 list-inside-report-at-requires : (t : ℕ) → list-inside-lts.Need-report-at-requires (calls t) (list-inside-at t) list-inside.Post
 list-inside-report-at-requires t c κs = (c .before .before .before .before .pre .1, c .find-end .ensures)
 
--- The report stands at the start of the room.
-first : (t : ℕ) (c : list-inside-lts.After-put-report (calls t) (list-inside-at t) list-inside.Post)
-    → c .put-report .last .1 .0 ≡ numbersOf (messageAt judge (c .before .before .before .before .before .before .before .args .start) (c .before .before .before .before .before .before .before .args .rest .now)) ++ drop width (c .before .before .before .before .before .before .before .args .room .now)
-first t c =
-    let a = c .before .before .before .before .before .before .before .args in
-    let four = four-numbers (messageAt judge (a .start) (a .rest .now)) (c .before .before .report-at .result) (c .before .before .report-at .ensures) in
-    c .put-report .ensures ∙ ap (λ (l : List ℕ). l ++ drop width (a .room .now)) four
+-- Where the report is in the room: the message's start, the bytes behind its F0H, how many of them `find_end` counted, the room as lent and
+-- with the report in it.
+abbrev Put : ℕ → Type 0
+Put t = list-inside-lts.After-put-report (calls t) (list-inside-at t) list-inside.Post
+
+module _ {t : ℕ} (c : Put t) where
+  abbrev start : ℕ
+  start = c .before .before .before .before .before .before .before .args .start
+
+  abbrev rest : List ℕ
+  rest = c .before .before .before .before .before .before .before .args .rest .now
+
+  abbrev counted : ℕ
+  counted = c .before .before .before .find-end .result .length
+
+  abbrev room : List ℕ
+  room = c .before .before .before .before .before .before .before .args .room .now
+
+  abbrev filled : List ℕ
+  filled = c .put-report .last .1 .0
+
+  fits : width ≤ length room
+  fits = c .before .before .before .before .if1 .left
+
+  index : counted ≡ length (body rest)
+  index = span-length rest (c .before .before .before .find-end .result) (c .before .before .before .find-end .ensures)
+
+  -- The report stands at the start of the room.
+  first : filled ≡ numbersOf (messageAt judge start rest) ++ drop width room
+  first =
+      let at = c .before .before .report-at in
+      c .put-report .ensures ∙ ap (λ (l : List ℕ). l ++ drop width room) (four-numbers (messageAt judge start rest) (at .result) (at .ensures))
+
+  -- The reports listed behind it are in the room too.
+  in-room : (rs : List Report) (new : List ℕ) (k : ℕ) → PartHolds filled rs new k → 1 + k ≤ length room
+  in-room rs new k l = omega (arith, part-fits filled rs l, c .put-report .kept .1 .0, fits)
 
 list-inside-returns-2 : (t : ℕ) → list-inside-lts.Need-returns-2 (calls t) (list-inside-at t) list-inside.Post
 list-inside-returns-2 t c =
-    let puts = c .before .before .before in
-    let a = puts .before .before .before .before .before .before .before .args in
-    let m = messageAt judge (a .start) (a .rest .now) in
-    let cut : length (a .rest .now) ≤ length (body (a .rest .now)) = omega (arith, span-length (a .rest .now) (puts .before .before .before .find-end .result) (puts .before .before .before .find-end .ensures), c .if2 .taken) in
-    rw (inside-cut judge (a .start) (a .rest .now) cut) (lists-one m (a .room .now) (puts .put-report .last .1 .0) (puts .before .before .before .before .if1 .left) (first t puts))
-
--- A byte stands behind the body, at the span's index.
-abbrev Behind : ℕ → Type 0
-Behind t = list-inside-lts.Else2 (calls t) (list-inside-at t) list-inside.Post
-
-index : (t : ℕ) (c : Behind t)
-    → c .before .before .before .before .before .before .find-end .result .length ≡ length (body (c .before .before .before .before .before .before .before .before .before .before .args .rest .now))
-index t c =
-    let found = c .before .before .before .before .before .before in
-    span-length (found .before .before .before .before .args .rest .now) (found .find-end .result) (found .find-end .ensures)
-
-there : (t : ℕ) (c : Behind t)
-    → length (body (c .before .before .before .before .before .before .before .before .before .before .args .rest .now)) < length (c .before .before .before .before .before .before .before .before .before .before .args .rest .now)
-there t c = omega (arith, index t c, c .if2 .left)
+    let p = c .before .before .before in
+    rw (inside-cut judge (start p) (rest p) (omega (arith, index p, c .if2 .taken)))
+    (lists-one (messageAt judge (start p) (rest p)) (room p) (filled p) (fits p) (first p))
 
 list-inside-returns-3 : (t : ℕ) → list-inside-lts.Need-returns-3 (calls t) (list-inside-at t) list-inside.Post
 list-inside-returns-3 t c =
     let call = c .before .before in
-    let branch = call .before .before .before in
-    let else2 = branch .before .before in
-    let puts = else2 .before .before .before in
-    let a = puts .before .before .before .before .before .before .before .args in
-    let f = a .start in
-    let s = a .rest .now in
-    let n = length (body s) in
-    let xs = puts .put-report .last .1 .0 in
-    let i = index t else2 in
-    let e : f + 1 + n ≡ suc f + n = omega arith in
-    let rest = take (length xs - width) (drop width xs) in
-    let inner : Holds (fitting rest (scan judge (suc (suc f + n)) (inside (suc f + n) []) (drop (n + 1) s))) rest (call .list-inside .last .1 .1 .0) (call .list-inside .result) =
-    rw (to-end (puts .before .before .before .find-end .result .length + 1) s, i, e) at (call .list-inside .ensures) in
-    rw (inside-again judge f s (there t else2) (rw i at (branch .if3 .taken)))
-    (lists-more (messageAt judge f s) (scan judge (suc (suc f + n)) (inside (suc f + n) []) (drop (n + 1) s)) (a .room .now) xs (puts .before .before .before .before .if1 .left) (first t puts)
-    (call .list-inside .last .1 .1 .0) (call .list-inside .result) inner)
+    let ended = call .before .before .before in
+    let p = ended .before .before .before .before .before in
+    let there : length (body (rest p)) < length (rest p) = omega (arith, index p, ended .before .before .if2 .left) in
+    let again = inside-again judge (start p) (rest p) there (rw (index p) at (ended .if3 .taken)) in
+    lists-on (rest p) (start p) (room p) (filled p) (fits p) (first p) (counted p) (index p) (λ q. inside q []) _ refl again
+    (call .list-inside .last .1 .1 .0) (call .list-inside .result) (call .list-inside .ensures)
 
 list-inside-returns-4 : (t : ℕ) → list-inside-lts.Need-returns-4 (calls t) (list-inside-at t) list-inside.Post
 list-inside-returns-4 t c =
     let call = c .before .before in
-    let branch = call .before .before .before in
-    let else2 = branch .before .before in
-    let puts = else2 .before .before .before in
-    let a = puts .before .before .before .before .before .before .before .args in
-    let f = a .start in
-    let s = a .rest .now in
-    let n = length (body s) in
-    let xs = puts .put-report .last .1 .0 in
-    let i = index t else2 in
-    let e : f + 1 + n + 1 ≡ suc (suc f + n) = omega arith in
-    let rest = take (length xs - width) (drop width xs) in
-    let inner : Holds (fitting rest (scan judge (suc (suc f + n)) outside (drop (n + 1) s))) rest (call .list-outside .last .1 .1 .0) (call .list-outside .result) =
-    rw (to-end (puts .before .before .before .find-end .result .length + 1) s, i, e) at (call .list-outside .ensures) in
-    rw (inside-left judge f s (there t else2) (λ z. branch .if3 .left (rw i z)))
-    (lists-more (messageAt judge f s) (scan judge (suc (suc f + n)) outside (drop (n + 1) s)) (a .room .now) xs (puts .before .before .before .before .if1 .left) (first t puts)
-    (call .list-outside .last .1 .1 .0) (call .list-outside .result) inner)
+    let ended = call .before .before .before in
+    let p = ended .before .before .before .before .before in
+    let there : length (body (rest p)) < length (rest p) = omega (arith, index p, ended .before .before .if2 .left) in
+    let left = inside-left judge (start p) (rest p) there (λ z. ended .if3 .left (rw (index p) z)) in
+    let next : start p + 1 + counted p + 1 ≡ suc (start p + 1 + counted p) = omega arith in
+    lists-on (rest p) (start p) (room p) (filled p) (fits p) (first p) (counted p) (index p) (λ q. outside) _ next left
+    (call .list-outside .last .1 .1 .0) (call .list-outside .result) (call .list-outside .ensures)
 
 list-inside-add-result : (t : ℕ) → list-inside-lts.Need-add-result (calls t) (list-inside-at t) list-inside.Post
 list-inside-add-result t c =
     let call = c .before .before in
-    let puts = call .before .before .before .before .before .before .before .before in
-    let xs = puts .put-report .last .1 .0 in
-    let at = puts .before .before .before .before .before .before .before in
-    let n = puts .before .before .before .find-end .result .length in
-    let s = at .args .rest .now in
-    let rest = take (length xs - width) (drop width xs) in
-    let place = at .args .start + 1 + n in
-    let behind = scan judge (suc place) (inside place []) (take (length s - (n + 1)) (drop (n + 1) s)) in
-    omega (arith, lists-fits behind rest (call .list-inside .ensures), ap length (to-end width xs), length-drop width xs, puts .put-report .kept .1 .0, at .good)
+    let p = call .before .before .before .before .before .before .before .before in
+    omega (arith, in-room p _ _ _ (call .list-inside .ensures), p .before .before .before .before .before .before .before .good)
 
 list-inside-add-result-2 : (t : ℕ) → list-inside-lts.Need-add-result-2 (calls t) (list-inside-at t) list-inside.Post
 list-inside-add-result-2 t c =
     let call = c .before .before in
-    let puts = call .before .before .before .before .before .before .before .before in
-    let xs = puts .put-report .last .1 .0 in
-    let at = puts .before .before .before .before .before .before .before in
-    let n = puts .before .before .before .find-end .result .length in
-    let s = at .args .rest .now in
-    let rest = take (length xs - width) (drop width xs) in
-    let behind = scan judge (at .args .start + 1 + n + 1) outside (take (length s - (n + 1)) (drop (n + 1) s)) in
-    omega (arith, lists-fits behind rest (call .list-outside .ensures), ap length (to-end width xs), length-drop width xs, puts .put-report .kept .1 .0, at .good)
+    let p = call .before .before .before .before .before .before .before .before in
+    omega (arith, in-room p _ _ _ (call .list-outside .ensures), p .before .before .before .before .before .before .before .good)
 
 list-outside-returns : (t : ℕ) → list-outside-lts.Need-returns (outer-calls t) (list-outside-at t) list-outside.Post
 list-outside-returns t c = lists-full _ (c .before .before .before .args .room .now) (c .if1 .taken)

@@ -17,7 +17,8 @@ returns-2 c =
     makes-zero (a .s .now) (a .place) (a .room .now) (call .list-some .last .1 .1 .0) (call .list-some .result) (call .list-some .ensures) (c .if2 .taken)
 
 -- The numbers made are in the room.
-fits : (c : tie.Else2) → 4 * c .before .before .before .list-some .result ≤ length (c .before .before .before .before .before .before .before .before .args .room .now)
+fits : (c : tie.Else2)
+    → let call = c .before .before .before in 4 * call .list-some .result ≤ length (call .before .before .before .before .before .args .room .now)
 fits c =
     let call = c .before .before .before in
     let a = call .before .before .before .before .before .args in
@@ -36,7 +37,8 @@ returns-3 : tie.Need-returns-3
 returns-3 c =
     let call = c .before .before .before .before in
     let a = call .before .before .before .before .before .args in
-    makes-some (a .s .now) (a .place) (a .room .now) (call .list-some .last .1 .1 .0) (call .list-some .result) (call .list-some .ensures) (c .before .if2 .left)
+    let made = call .list-some in
+    makes-some (a .s .now) (a .place) (a .room .now) (made .last .1 .1 .0) (made .result) (made .ensures) (c .before .if2 .left)
 
 pub reports-spec : {M : Type 1} → statement M
 reports-spec =

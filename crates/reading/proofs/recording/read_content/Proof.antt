@@ -33,8 +33,8 @@ its c = read-accepted (content c) (judging c .judge-content .result) (judging c 
 
 size : (c : tie.After-packed-size) → c .packed-size .result ≡ its c .size
 size c =
-    let at = judging c in
-    c .packed-size .ensures ∙ ap packedSize (c .before .kind-of .ensures) ∙ size-its (content c) (at .judge-content .result) (at .judge-content .ensures) (its c)
+    let judged = judging c .judge-content in
+    c .packed-size .ensures ∙ ap packedSize (c .before .kind-of .ensures) ∙ size-its (content c) (judged .result) (judged .ensures) (its c)
 
 returns-2 : tie.Need-returns-2
 returns-2 c =

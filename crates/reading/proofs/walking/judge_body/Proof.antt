@@ -1,7 +1,6 @@
 -- `judge_body` judges the bytes as they stand, or what is left of them without real time: of a longer message the first 350.
 use mathlib.Core.Path.{sym, _∙_}
 use native.Mathlib.Omega.{arith}
-use lib.ListN.{length}
 use lib.Seq.{length-take-le}
 use borrow.Author.Needs.{needs}
 use Rattle.frames.specs.Bytes.{withoutRealTime}
@@ -20,7 +19,9 @@ kept-length c = let at = c .before .before in sym (length-take-le (at .keep .res
 
 returns-2 : tie.Need-returns-2
 returns-2 c =
-    c .judge-content2 .ensures ∙ rw (c .before .before .before .keep .ensures .bytes, judge-first (withoutRealTime (c .before .before .before .before .before .before .before .args .body .now)))
+    let at = c .before .before .before in
+    let body = at .before .before .before .before .args .body .now in
+    c .judge-content2 .ensures ∙ rw (at .keep .ensures .bytes, judge-first (withoutRealTime body))
 
 pub judge-body-spec : {M : Type 1} → statement M
 judge-body-spec =

@@ -1,5 +1,5 @@
 -- `keep` answers how many bytes the room has: all that are left, or as many as it takes.
-use mathlib.Core.Path.{_≡_, _∙_}
+use mathlib.Core.Path.{_∙_}
 use native.Mathlib.Omega.{arith}
 use lib.ListN.{length}
 use lib.Seq.{take-all}
