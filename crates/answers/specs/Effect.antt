@@ -26,10 +26,14 @@ abbrev pub changed : ℕ → List ℕ → List ℕ → Verdict → Effect Outcom
 changed detail new old (done o b p) = record { result = outcome 0 detail; lent = new }
 changed detail new old (refused o) = record { result = o; lent = old }
 
--- Bytes at the start of a lent output, the bytes behind them kept: refused by the first row that holds, and last by 13 where the output is too short.
+-- Bytes at the start of a lent output, the bytes behind them kept.
+abbrev pub atStart : List ℕ → List ℕ → List ℕ
+atStart bytes out = bytes ++ drop (length bytes) out
+
+-- Bytes written there: refused by the first row that holds, and last by 13 where the output is too short.
 abbrev pub written : List Row → List ℕ → List ℕ → Effect Outcome
 written rows bytes out =
-    changed (length bytes) (bytes ++ drop (length bytes) out) out
+    changed (length bytes) (atStart bytes out) out
     (first (rows ++ (row 13 (ltb (length out) (length bytes)) ∷ [])) (done 0 [] []))
 
 -- What a call gave is the effect e.

@@ -3,11 +3,11 @@ use crate::walking::Report;
 use crate::walking::report_at;
 ghost use mathlib.Core.Path.{_≡_};
 ghost use mathlib.Core.List.{[], _∷_, _++_};
-ghost use Prim.Native.Nat.{suc, _+_, _^_, _<_, _≤_};
+ghost use Prim.Native.Nat.{_+_, _^_, _<_, _≤_};
 ghost use lib.ListN.{length, drop};
-ghost use Rattle.frames.specs.Scan.{outside, inside, scan};
+ghost use Rattle.frames.specs.Scan.{outside, scan};
 ghost use Rattle.messages.specs.Judge.{judge};
-ghost use Rattle.reading.specs.code.Rooms.{width, fitting, made, Holds, Makes};
+ghost use Rattle.reading.specs.code.Rooms.{width, fitting, reportsInside, made, Holds, Makes};
 
 // How many reports were made, and the place from which to go on.
 #[repr(C)]
@@ -54,7 +54,7 @@ fn list_outside(rest: &[u8], place: usize, room: &mut [usize]) -> usize
 // Inside the message whose F0H stands at `start`: its report, then on behind the byte that ended it, which may be an F0H.
 fn list_inside(rest: &[u8], start: usize, room: &mut [usize]) -> usize
     requires { ⌜ start + 1 + length (now rest) < 2 ^ 64 ⌝ }
-    ensures { λ r. ⌜ Holds (fitting (now (room .entry)) (scan judge (suc start) (inside start []) (now (rest .entry)))) (now (room .entry)) (now (room .exit)) r ⌝ }
+    ensures { λ r. ⌜ Holds (fitting (now (room .entry)) (reportsInside start (now (rest .entry)))) (now (room .entry)) (now (room .exit)) r ⌝ }
 {
     if room.len() < WIDTH {
         return 0;

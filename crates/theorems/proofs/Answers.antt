@@ -37,9 +37,9 @@ use Rattle.messages.specs.Layout.{message, givenRows}
 use Rattle.messages.proofs.Numbers.{IsDone, made, record-done, message-refusals, given-refusals}
 use Rattle.reading.specs.code.Told.{reportOr, walked, reads}
 use Rattle.writing.specs.declared.BankOutcome.{BankOutcome}
-use Rattle.writing.specs.Writing.{writing, writingBank, bankFrom, firstBad, orLater, unlessBad}
+use Rattle.writing.specs.Writing.{writing, writingBank, bankBytes, firstBad, orLater, unlessBad}
 use Rattle.theorems.specs.Answers.{fromStart, isEmpty, found, complete, recordIn, opcodeIn, walkRows, thenRoom}
-use Rattle.theorems.specs.Answers.{Answered, patchesRows, bankBytes, bankTable, patchAt, PlaceOf, refused-patch, no-patch, Demand1}
+use Rattle.theorems.specs.Answers.{Answered, patchesRows, bankTable, patchAt, PlaceOf, refused-patch, no-patch, Demand1}
 
 -- The walk finds nothing, and the first row says so; or it finds a message, and its verdict is that of the rows.
 data Found (s : List ℕ) (place : ℕ) : Type 0 where

@@ -24,7 +24,7 @@ use Rattle.messages.specs.Judge.{byteAt, recordOf, messageRows, judge}
 use Rattle.messages.specs.Layout.{message, givenRows}
 use Rattle.reading.specs.code.Told.{walked, reads}
 use Rattle.writing.specs.declared.BankOutcome.{BankOutcome}
-use Rattle.writing.specs.Writing.{writing, bankFrom, bankMost, writingBank}
+use Rattle.writing.specs.Writing.{writing, bankBytes, bankMost, writingBank}
 
 -- The bytes from the first F0H on.
 unfoldable pub fromStart : List ℕ → List ℕ
@@ -77,9 +77,6 @@ pub record Answered (rows : List Row) (detail n : ℕ) (old : List ℕ) (o : Out
 abbrev pub patchesRows : ℕ → List ℕ → List Row
 patchesRows zero ps = []
 patchesRows (suc n) ps = fieldRows (take size ps) ++ patchesRows n (drop size ps)
-
-abbrev pub bankBytes : List ℕ → List ℕ
-bankBytes ps = bankFrom (length ps / size) 0 ps
 
 abbrev pub bankTable : List ℕ → List ℕ → List Row
 bankTable ps out =

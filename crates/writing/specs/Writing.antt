@@ -1,6 +1,6 @@
 -- What each writer leaves in a lent output, and a bank.
 use mathlib.Core.Bool.{cond, not, _||_}
-use mathlib.Core.List.{List, [], _∷_, _++_}
+use mathlib.Core.List.{List, [], _++_}
 use mathlib.Core.Option.{Option, none, some}
 use Prim.Native.Nat.{ℕ, zero, suc, _*_, _/_, _%_}
 use lib.Dec.{eqb, ltb}
@@ -11,18 +11,26 @@ use Rattle.answers.specs.Effect.{Effect, toldAs, written}
 use Rattle.fields.specs.Fields.{size}
 use Rattle.patch.specs.Patch.{fieldRows}
 use Rattle.messages.specs.declared.kinds.Kind.{Kind}
+use Rattle.messages.specs.declared.kinds.Dump.{Dump}
 use Rattle.messages.specs.Kinds.{singlePatch}
-use Rattle.messages.specs.Layout.{dump, message, givenRows}
+use Rattle.messages.specs.Layout.{dump, message, dumpGiven, givenRows}
 use Rattle.writing.specs.declared.BankOutcome.{BankOutcome}
 
 -- A message of a kind, from the bytes b that come with the answer and a dump's packed bytes p: its tests, then 13.
 unfoldable pub writing : Kind → List ℕ → List ℕ → List ℕ → Effect Outcome
 writing k b p out = written (givenRows k b p) (message k b p) out
 
+-- The same of a dump, by its description and the byte behind its opcode.
+abbrev pub writingDump : Dump → ℕ → List ℕ → List ℕ → Effect Outcome
+writingDump k n p out = written (dumpGiven k n p) (dump (k .opcode) n p) out
+
 -- n patches end to end as dumps, numbered from k.
 unfoldable pub bankFrom : ℕ → ℕ → List ℕ → List ℕ
 bankFrom zero k ps = []
 bankFrom (suc n) k ps = dump (singlePatch .opcode) k (take size ps) ++ bankFrom n (suc k) (drop size ps)
+
+abbrev pub bankBytes : List ℕ → List ℕ
+bankBytes ps = bankFrom (length ps / size) 0 ps
 
 -- An outcome, and as place the number of the patch that is refused, 0 with other answers.
 abbrev pub bankOutcome : Outcome → ℕ → BankOutcome
@@ -60,4 +68,4 @@ unfoldable pub writingBank : List ℕ → List ℕ → Effect BankOutcome
 writingBank ps out =
     cond (not (eqb (length ps % size) 0) || ltb bankMost (length ps))
     (record { result = noPlace (outcome 7 0); lent = out })
-    (unlessBad (firstBad (length ps / size) 0 ps) (bankFrom (length ps / size) 0 ps) out)
+    (unlessBad (firstBad (length ps / size) 0 ps) (bankBytes ps) out)

@@ -25,13 +25,13 @@ ghost use mathlib.Core.Path.{_≡_};
 ghost use mathlib.Core.List.{[], _∷_, _++_};
 ghost use Prim.Native.Nat.{_+_, _*_, _/_, _≤_};
 ghost use lib.ListN.{length, drop};
-ghost use Rattle.answers.specs.Effect.{Gives, tested, written};
+ghost use Rattle.answers.specs.Effect.{Gives, tested, atStart};
 ghost use Rattle.fields.specs.Fields.{size};
 ghost use Rattle.nibbles.specs.Nibbles.{sum};
 ghost use Rattle.messages.specs.declared.kinds.Kind.the-variants.{Dump as ofDump, Short as ofShort};
 ghost use Rattle.messages.specs.Kinds.{singlePatch, masterParameters, editBuffer, remoteEdit, busEdit, Sized};
 ghost use Rattle.messages.specs.Layout.{dump, dumpGiven};
-ghost use Rattle.writing.specs.Writing.{writing, writingBank, bankFrom, firstBad, bankTested, bankMost, noPlace};
+ghost use Rattle.writing.specs.Writing.{writing, writingDump, writingBank, bankBytes, firstBad, bankTested, bankMost, noPlace};
 
 // A bank has at most 100 patches.
 const BANK: usize = 100 * PATCH;
@@ -66,7 +66,7 @@ fn put_closing(packed: &[u8], out: &mut [u8])
 // One dump of any kind at the start of an output. The callers below have seen that it fits.
 fn put_dump(opcode: u8, number: u8, packed: &[u8], out: &mut [u8])
     requires { ⌜ 2 * length (now packed) + 7 ≤ length (now out) ⌝ }
-    ensures { λ _. ⌜ now (out .exit) ≡ dump opcode number (now (packed .entry)) ++ drop (length (dump opcode number (now (packed .entry)))) (now (out .entry)) ⌝ }
+    ensures { λ _. ⌜ now (out .exit) ≡ atStart (dump opcode number (now (packed .entry))) (now (out .entry)) ⌝ }
 {
     put_opening(opcode, out);
     out[4] = number;
@@ -93,7 +93,7 @@ fn test_dump(kind: Dump, number: u8, p: &[u8]) -> Outcome
 // Writes a dump by its description: its tests, then 13. Done with its length.
 fn write_dump(kind: Dump, number: u8, p: &[u8], out: &mut [u8]) -> Outcome
     requires { ⌜ Sized (ofDump kind) ⌝ }
-    ensures { λ r. ⌜ Gives (written (dumpGiven kind number (now (p .entry))) (dump (kind .opcode) number (now (p .entry))) (now (out .entry))) r (now (out .exit)) ⌝ }
+    ensures { λ r. ⌜ Gives (writingDump kind number (now (p .entry)) (now (out .entry))) r (now (out .exit)) ⌝ }
 {
     let tested = test_dump(kind, number, p);
     if tested.answer != DONE {
@@ -131,7 +131,7 @@ pub fn write_master(m: &[u8], out: &mut [u8]) -> Outcome
 // Bytes at the start of an output. The caller below has seen that they fit.
 fn put_bytes(bytes: &[u8], out: &mut [u8])
     requires { ⌜ length (now bytes) ≤ length (now out) ⌝ }
-    ensures { λ _. ⌜ now (out .exit) ≡ now (bytes .entry) ++ drop (length (now (bytes .entry))) (now (out .entry)) ⌝ }
+    ensures { λ _. ⌜ now (out .exit) ≡ atStart (now (bytes .entry)) (now (out .entry)) ⌝ }
 {
     let mut i: usize = 0;
     while i < bytes.len() {
@@ -202,7 +202,7 @@ fn test_bank(ps: &[u8]) -> BankOutcome
 // Dump after dump, each from its own place. `write_bank` has tested the length and the room.
 fn put_bank(ps: &[u8], out: &mut [u8])
     requires { ⌜ (length (now ps) ≤ bankMost) × (length (now ps) / size * singlePatch .length ≤ length (now out)) ⌝ }
-    ensures { λ _. ⌜ now (out .exit) ≡ bankFrom (length (now (ps .entry)) / size) 0 (now (ps .entry)) ++ drop (length (now (ps .entry)) / size * singlePatch .length) (now (out .entry)) ⌝ }
+    ensures { λ _. ⌜ now (out .exit) ≡ bankBytes (now (ps .entry)) ++ drop (length (now (ps .entry)) / size * singlePatch .length) (now (out .entry)) ⌝ }
 {
     let count = ps.len() / PATCH;
     let mut k: usize = 0;

@@ -1,12 +1,12 @@
 -- Reports in lent room, their numbers one after the other.
 use mathlib.Core.Path.{_≡_}
 use mathlib.Core.List.{List, [], _∷_, _++_}
-use Prim.Native.Nat.{ℕ, _*_, _/_, _≤_}
+use Prim.Native.Nat.{ℕ, suc, _*_, _/_, _≤_}
 use lib.ListN.{length, take, drop}
 use Rattle.answers.specs.Lists.{All}
 use Rattle.answers.specs.Table.{outcomeOf}
 use Rattle.frames.specs.Stream.{Report, reports}
-use Rattle.frames.specs.Scan.{outside, scan}
+use Rattle.frames.specs.Scan.{outside, inside, scan}
 use Rattle.messages.specs.Judge.{judge}
 use Rattle.reading.specs.declared.listing.Listed.{Listed}
 
@@ -20,6 +20,10 @@ width = 4
 unfoldable pub flat : List Report → List ℕ
 flat [] = []
 flat (r ∷ rs) = numbersOf r ++ flat rs
+
+-- The reports from just behind the F0H at a place on.
+abbrev pub reportsInside : ℕ → List ℕ → List Report
+reportsInside start rest = scan judge (suc start) (inside start []) rest
 
 -- As many reports as a room has place for.
 abbrev pub fitting : List ℕ → List Report → List Report
