@@ -105,6 +105,7 @@ pub record SoFar (s : List ℕ) (left₀ : Left) (room₀ room : List ℕ) (end 
   pub within : end ≤ length room₀
   pub none-more : callsLeft s left ≤ callsLeft s left₀
   pub fewer : 0 < end → callsLeft s left < callsLeft s left₀
+  pub short : length room₀ < leastRoom → (end ≡ 0) × (left ≡ left₀)
 
 pub no-step : (s : List ℕ) (left : Left) (room : List ℕ) → SoFar s left room room 0 left
 no-step s left room =
@@ -116,6 +117,7 @@ no-step s left room =
       within = omega arith;
       none-more = omega arith;
       fewer = λ h. absurd (omega arith);
+      short = λ h. (refl, refl);
     }
 
 module _ {s : List ℕ} {left₀ : Left} {room₀ room : List ℕ} {end : ℕ} {left : Left} (f : SoFar s left₀ room₀ room end left) where
@@ -135,6 +137,7 @@ module _ {s : List ℕ} {left₀ : Left} {room₀ room : List ℕ} {end : ℕ} {
         within = omega (arith, a .few, same-room);
         none-more = omega (arith, a .fewer, f .none-more);
         fewer = λ z. omega (arith, a .fewer, f .none-more);
+        short = λ h. absurd (omega (arith, k, same-room));
       }
 
   pub piece-given : (leastRoom ≤ length room₀ → callsLeft s left ≤ callsLeft s left₀ - 1)
@@ -149,5 +152,6 @@ module _ {s : List ℕ} {left₀ : Left} {room₀ room : List ℕ} {end : ℕ} {
         fits = omega (arith, f .within, f .long);
         room = f .puts .text ∙ rw (whole, f .long) refl;
         fewer = fewer;
+        short = f .short;
       } in
       (given, puts-counts (omega arith) (f .puts))

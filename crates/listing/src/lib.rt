@@ -124,7 +124,7 @@ fn put_some(s: &[u8], left: Left, room: &mut [u8], at: usize) -> Piece
 }
 
 // The next piece of the listing of `s`, at the room's start: lines until fewer than LEAST_ROOM bytes are left. In a room of LEAST_ROOM bytes
-// or more each call brings the listing further.
+// or more each call brings the listing further; a shorter one gets an empty piece.
 pub fn next_piece(s: &[u8], left: Left, room: &mut [u8]) -> Piece
     ensures { λ r. ⌜ GivesPiece (now (s .entry)) left (now (room .entry)) (now (room .exit)) r ⌝ }
     ensures { λ r. ⌜ Counts (r .len) (now (room .exit)) ⌝ }

@@ -2,7 +2,7 @@
 use mathlib.Core.Path.{_≡_}
 use mathlib.Core.Bool.{cond, _&&_}
 use mathlib.Core.List.{List, [], _∷_, _++_}
-use Prim.Native.Nat.{ℕ, _+_, _*_, _-_, _≤_}
+use Prim.Native.Nat.{ℕ, _+_, _*_, _-_, _≤_, _<_}
 use lib.Dec.{leb}
 use lib.ListN.{length, take, drop}
 use Rattle.frames.specs.Stream.{Report}
@@ -39,7 +39,7 @@ abbrev pub leastRoom : ℕ
 leastRoom = reportsMost * (width * 21)
 
 -- What a call gives: a piece, at the room's start, the room's other bytes kept. The piece and what is left then are what was left before. In
--- a room that is long enough fewer calls may follow than before, so that nothing is left in the end.
+-- a room that is long enough fewer calls may follow than before, so that nothing is left in the end; a shorter one gets an empty piece.
 pub record GivesPiece (s : List ℕ) (left : Left) (old new : List ℕ) (p : Piece) : Type 0 where
   pub piece : List ℕ
   pub text : leftOf s left ≡ piece ++ leftOf s (p .left)
@@ -47,6 +47,7 @@ pub record GivesPiece (s : List ℕ) (left : Left) (old new : List ℕ) (p : Pie
   pub fits : length piece ≤ length old
   pub room : new ≡ piece ++ drop (length piece) old
   pub fewer : leastRoom ≤ length old → callsLeft s (p .left) ≤ callsLeft s left - 1
+  pub short : length old < leastRoom → (p .len ≡ 0) × (p .left ≡ left)
 
 -- A call: the lent room before and after, and the answer.
 pub record Call : Type 0 where
