@@ -9,11 +9,12 @@ use lib.ListN.{length, drop}
 use lib.Seq.{drop-at}
 use borrow.Author.Tests.{lt-ltb, le-ltb, ltb-false}
 use Rattle.answers.specs.declared.Outcome.{Outcome}
-use Rattle.answers.specs.Table.{Row, row, Verdict, done, refused, first, outcome, outcomeOf, answerOf, Silent}
-use Rattle.answers.specs.Effect.{tested, changed, written, Gives, Keeps, Decides}
+use Rattle.answers.specs.Table.{Row, row, Verdict, done, refused, first, outcome, outcomeOf, answerOf}
+use Rattle.answers.specs.Effect.{tested, changed, written, Gives}
 use Rattle.answers.proofs.Lists.{all-append}
 use Rattle.answers.proofs.Rows.{Refusals, numberOf, Heard, nothing, something, heard, decides}
 use Rattle.answers.proofs.Rows.{first-append, first-passed, passed-over, silent-parts, zero-silent, answered-silent, row-silent, stopped, first-stopped}
+use Rattle.answers.specs.promises.Decides.{Decides, Keeps, Silent}
 
 -- Rows that a test answered by 0 say nothing.
 pub passed : (rows : List Row) (r : Outcome) → Refusals rows → r ≡ tested rows → r .answer ≡ 0 → Silent rows

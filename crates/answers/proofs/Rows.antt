@@ -11,9 +11,10 @@ use lib.Dec.{eqb}
 use borrow.Author.Tests.{eqb-true, not-false}
 use Rattle.answers.specs.declared.Outcome.{Outcome}
 use Rattle.answers.specs.Lists.{All}
-use Rattle.answers.specs.Table.{Row, row, rowAt, Verdict, done, refused, unless, first, outcome, outcomeOf, answerOf, says, Silent, FirstSays}
-use Rattle.answers.specs.Effect.{tested, Decides}
+use Rattle.answers.specs.Table.{Row, row, rowAt, Verdict, done, refused, unless, first, outcome, outcomeOf, answerOf, says}
+use Rattle.answers.specs.Effect.{tested}
 use Rattle.answers.proofs.Lists.{all-left, all-right}
+use Rattle.answers.specs.promises.Decides.{Decides, FirstSays, Silent}
 
 -- Rows after rows are tested after them.
 pub first-append : (rows more : List Row) (v : Verdict) → first (rows ++ more) v ≡ first rows (first more v)

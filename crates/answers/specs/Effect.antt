@@ -1,12 +1,11 @@
 -- What a routine with a lent buffer gives: its result, and the buffer's bytes afterwards.
 use mathlib.Core.Path.{_≡_}
 use mathlib.Core.List.{List, [], _∷_, _++_}
-use mathlib.Core.Logic.{_↔_}
 use Prim.Native.Nat.{ℕ}
 use lib.Dec.{ltb}
 use lib.ListN.{length, drop}
 use Rattle.answers.specs.declared.Outcome.{Outcome}
-use Rattle.answers.specs.Table.{Row, row, Verdict, done, refused, first, outcome, outcomeOf, Silent, FirstSays}
+use Rattle.answers.specs.Table.{Row, row, Verdict, done, refused, first, outcome, outcomeOf}
 
 -- The answer of rows to which nothing else is added: refused by the first that holds, else done with detail 0.
 abbrev pub tested : List Row → Outcome
@@ -40,15 +39,3 @@ written rows bytes out =
 pub record Gives {R : Type 0} (e : Effect R) (r : R) (after : List ℕ) : Type 0 where
   pub result : r ≡ e .result
   pub lent : after ≡ e .lent
-
--- Refused, every lent byte is the same; done, those behind the first n are.
-pub record Keeps (answer n : ℕ) (old after : List ℕ) : Type 0 where
-  pub refused : (answer ≡ 0 → ⊥) → after ≡ old
-  pub behind : answer ≡ 0 → drop n after ≡ drop n old
-
--- The outcome of a routine is that of its table: any other answer than 0 is given, with its detail, exactly when a row says so and no row before it says
--- anything; 0 exactly when no row does, with this detail.
-pub record Decides (rows : List Row) (detail : ℕ) (o : Outcome) : Type 0 where
-  pub refuses : (r : Outcome) → (r .answer ≡ 0 → ⊥) → (o ≡ r) ↔ FirstSays rows r
-  pub is-done : (o .answer ≡ 0) ↔ Silent rows
-  pub with-detail : o .answer ≡ 0 → o .detail ≡ detail

@@ -1,3 +1,4 @@
 pub mod Lists
 pub mod Table
 pub mod Effect
+pub mod promises

@@ -1,12 +1,10 @@
 -- The form of document 01's table of answers: numbered conditions in order, the first that holds decides.
 use mathlib.Core.Bool.{Bool, true, false}
-use mathlib.Core.List.{List, [], _∷_, _++_}
+use mathlib.Core.List.{List, [], _∷_}
 use mathlib.Core.Option.{Option, none, some}
-use mathlib.Core.Path.{_≡_}
 use Prim.Native.Nat.{ℕ}
 use lib.ListN.{getD}
 use Rattle.answers.specs.declared.Outcome.{Outcome}
-use Rattle.answers.specs.Lists.{All}
 
 -- An answer and its detail.
 abbrev pub outcome : ℕ → ℕ → Outcome
@@ -49,16 +47,3 @@ answerOf v = outcomeOf v .answer
 -- The bytes that come with an answer, as four: zero behind the last.
 abbrev pub four : List ℕ → List ℕ
 four b = getD b 0 0 ∷ getD b 1 0 ∷ getD b 2 0 ∷ getD b 3 0 ∷ []
-
--- No row says anything.
-abbrev pub Silent : List Row → Type 0
-Silent rows = All (λ (r : Row). says r ≡ none) rows
-
--- Some row says o, and no row before it says anything.
-pub record FirstSays (rows : List Row) (o : Outcome) : Type 0 where
-  pub before : List Row
-  pub here : Row
-  pub after : List Row
-  pub split : rows ≡ before ++ here ∷ after
-  pub silent : Silent before
-  pub said : says here ≡ some o

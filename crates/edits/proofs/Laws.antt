@@ -9,21 +9,23 @@ use native.Mathlib.Omega.{arith}
 use lib.Dec.{eqb, ltb}
 use lib.ListN.{length, getD, set, length-set}
 use lib.Seq.{getD-set-same, getD-set-other}
-use borrow.Author.Tests.{lt-ltb, le-ltb, le-leb, ltb-true, ltb-false, eqb-true, eqb-false, ne-eqb}
+use borrow.Author.Tests.{lt-ltb, le-ltb, le-leb, lt-leb, ltb-true, ltb-false, eqb-true, eqb-false, ne-eqb}
 use Rattle.answers.specs.declared.Outcome.{Outcome}
-use Rattle.answers.specs.Table.{Row, done, first, outcome, Silent}
+use Rattle.answers.specs.Table.{Row, done, first, outcome}
 use Rattle.answers.specs.Effect.{Effect, changed, tested}
 use Rattle.answers.proofs.Lists.{all-append}
 use Rattle.answers.proofs.Rows.{Refusals, numberOf, first-passed, done-passed, silent-parts}
 use Rattle.answers.proofs.Effects.{changed-kept, changed-silent}
-use Rattle.fields.specs.Fields.{fields, between, inRange, placeOf}
-use Rattle.patch.specs.Patch.{outFrom, firstOut, halfUsed, patchRows}
+use Rattle.answers.specs.promises.Decides.{Silent}
+use Rattle.ranges.specs.Ranges.{between, inRow, outFrom}
+use Rattle.ranges.proofs.Runs.{one-in, out-set}
+use Rattle.fields.specs.Fields.{fields, inRange, placeOf}
+use Rattle.patch.specs.Patch.{firstOut, halfUsed, patchRows}
 use Rattle.patch.proofs.Tests.{patch-refusals, fields-pass, patch-length}
 use Rattle.fields.proofs.Rules.{found-place}
-use Rattle.patch.proofs.Runs.{one-in}
-use Rattle.patch.proofs.Accepted.{out-set, Whole, each-whole, patch-accepted}
+use Rattle.patch.proofs.Accepted.{Whole, each-whole, patch-accepted}
 use Rattle.edits.specs.Edits.{extended, storedFor, editRows, busRows, withByte, withBus, applying, applyingBus}
-use Rattle.edits.specs.Done.{EditDone, BusDone}
+use Rattle.edits.specs.promises.Done.{EditDone, BusDone}
 use Rattle.edits.proofs.Tests.{rows-at, rows-nowhere, edit-refusals, bus-refusals, value-inside, bus-number, bus-amount, bus-bytes, bus-whole}
 
 -- Below 64 a value stays as it is.
@@ -48,18 +50,18 @@ stored-extended n v h = simp (ne-eqb n 21 h)
 
 -- An extended amount always lies in the range of an amount: behind 8, the test for 14 never holds.
 pub amount-inside : (a : ℕ) → a ≤ 127 → inRange 105 (extended a) ≡ true
-unfolding inRange fields between
+unfolding inRow fields between
 amount-inside a h = go (ltb a 64) refl
   where
     go : (t : Bool) → ltb a 64 ≡ t → inRange 105 (extended a) ≡ true
     go true q =
         let l = ltb-true a 64 q in
         let e = extended-low a l in
-        rw e (simp (lt-ltb a 192 (omega arith), le-leb a 63 (omega arith)))
+        rw e (simp (lt-ltb a 256 (omega arith), lt-leb 192 a (omega arith), le-leb a 63 (omega arith)))
     go false q =
         let l = ltb-false a 64 q in
         let e = extended-high a l in
-        rw e (simp (le-ltb (a + 128) 192 (omega arith), lt-ltb (a + 128) 256 (omega arith)))
+        rw e (simp (lt-ltb (a + 128) 256 (omega arith), le-leb 192 (a + 128) (omega arith)))
 
 -- A remote edit that is answered otherwise than 0 leaves the patch as it was.
 pub edit-refused-keeps : (n v : ℕ) (p : List ℕ) → (applying n v p .result .answer ≡ 0 → ⊥) → applying n v p .lent ≡ p
@@ -99,7 +101,7 @@ one-stored p k b a l h =
     let w = patch-whole p a in
     let at : 0 + k ≡ k = omega arith in
     let same : (i : ℕ) → 104 ≤ i → getD (set p k b) i 0 ≡ getD p i 0 = λ i g. getD-set-other p k i b 0 (λ e. omega arith) in
-    patch-accepted (set p k b) (length-set p k b ∙ patch-length p a) (out-set 0 k b p (w .0) (rw at h))
+    patch-accepted (set p k b) (length-set p k b ∙ patch-length p a) (out-set fields 0 k b p (w .0) (rw at h))
     (λ c g. rw (same (104 + 3 * c) (omega arith), same (106 + 3 * c) (omega arith)) (w .1 c g))
 
 edit-stored : (n v k : ℕ) (p : List ℕ) → placeOf n ≡ some k → first (editRows n v ++ patchRows p) (done 0 [] []) ≡ done 0 [] []
@@ -185,18 +187,18 @@ module _ (b s a d : ℕ) (p : List ℕ) (h : b ≤ 9) (l : length p ≡ 134) whe
           let last-byte = with-others (106 + 3 * c) (λ e. omega arith) (λ e. omega arith) (λ e. other (omega arith)) in
           rw (first-byte, last-byte) (w c k)
 
-  with-ranges : firstOut p ≡ none → outFrom (104 + 3 * b) (s ∷ extended a ∷ d ∷ []) ≡ none → firstOut (withBus b s a d p) ≡ none
+  with-ranges : firstOut p ≡ none → outFrom fields (104 + 3 * b) (s ∷ extended a ∷ d ∷ []) ≡ none → firstOut (withBus b s a d p) ≡ none
   unfolding withBus
   with-ranges e o =
-      let in₀ = one-in (104 + 3 * b) s (extended a ∷ d ∷ []) o in
-      let in₁ = one-in (suc (104 + 3 * b)) (extended a) (d ∷ []) (in₀ .1) in
-      let in₂ = one-in (suc (suc (104 + 3 * b))) d [] (in₁ .1) in
+      let in₀ = one-in fields (104 + 3 * b) s (extended a ∷ d ∷ []) o in
+      let in₁ = one-in fields (suc (104 + 3 * b)) (extended a) (d ∷ []) (in₀ .1) in
+      let in₂ = one-in fields (suc (suc (104 + 3 * b))) d [] (in₁ .1) in
       let k₀ : 104 + 3 * b ≡ 0 + (104 + 3 * b) = omega arith in
       let k₁ : suc (104 + 3 * b) ≡ 0 + (105 + 3 * b) = omega arith in
       let k₂ : suc (suc (104 + 3 * b)) ≡ 0 + (106 + 3 * b) = omega arith in
-      let e₀ = out-set 0 (104 + 3 * b) s p e (subst (λ (k : ℕ). inRange k s ≡ true) k₀ (in₀ .0)) in
-      let e₁ = out-set 0 (105 + 3 * b) (extended a) one e₀ (subst (λ (k : ℕ). inRange k (extended a) ≡ true) k₁ (in₁ .0)) in
-      out-set 0 (106 + 3 * b) d two e₁ (subst (λ (k : ℕ). inRange k d ≡ true) k₂ (in₂ .0))
+      let e₀ = out-set fields 0 (104 + 3 * b) s p e (subst (λ (k : ℕ). inRange k s ≡ true) k₀ (in₀ .0)) in
+      let e₁ = out-set fields 0 (105 + 3 * b) (extended a) one e₀ (subst (λ (k : ℕ). inRange k (extended a) ≡ true) k₁ (in₁ .0)) in
+      out-set fields 0 (106 + 3 * b) d two e₁ (subst (λ (k : ℕ). inRange k d ≡ true) k₂ (in₂ .0))
 
 bus-stored : (b s a d : ℕ) (p : List ℕ) → first (busRows b s a d ++ patchRows p) (done 0 [] []) ≡ done 0 [] []
     → applyingBus b s a d p ≡ record { result = outcome 0 0; lent = withBus b s a d p }

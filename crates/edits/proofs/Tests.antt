@@ -8,12 +8,14 @@ use native.Mathlib.Omega.{arith}
 use lib.Dec.{ltb}
 use lib.ListN.{set}
 use borrow.Author.Tests.{ltb-false}
-use Rattle.answers.specs.Table.{Row, row, rowAt, done, first, outcome, Silent}
+use Rattle.answers.specs.Table.{Row, row, rowAt, done, first, outcome}
 use Rattle.answers.specs.Effect.{changed}
 use Rattle.answers.proofs.Rows.{Refusals, row-silent, row-at-silent}
-use Rattle.fields.specs.Fields.{inRange, placeOf}
-use Rattle.patch.specs.Patch.{outFrom, halfUsed, patchRows}
-use Rattle.patch.proofs.Accepted.{three}
+use Rattle.answers.specs.promises.Decides.{Silent}
+use Rattle.ranges.specs.Ranges.{outFrom}
+use Rattle.ranges.proofs.Runs.{three}
+use Rattle.fields.specs.Fields.{fields, inRange, placeOf}
+use Rattle.patch.specs.Patch.{halfUsed, patchRows}
 use Rattle.fields.proofs.Buses.{bus-range}
 use Rattle.edits.specs.Edits.{extended, storedFor, outAt, valueRows, editRows, byteRows, busRows, withByte, applying}
 
@@ -48,7 +50,7 @@ pub byte-rows : (b s a d : ℕ) → b ≤ 9 → byteRows b s a d
 byte-rows b s a d h =
     let here : 104 + 3 * b + 0 ≡ 104 + 3 * b = omega arith in
     let source = rw here at (bus-range b 0 s h (omega arith)) in
-    rw (three (104 + 3 * b) s a d, source, bus-range b 1 a h (omega arith), bus-range b 2 d h (omega arith))
+    rw (three fields (104 + 3 * b) s a d, source, bus-range b 1 a h (omega arith), bus-range b 2 d h (omega arith))
 
 -- The rows of an edit are refusals: of a value at its place, of a remote edit, of a matrix modulation edit.
 pub value-refusals : (k n v : ℕ) → Refusals (valueRows k n v)
@@ -95,9 +97,9 @@ unfolding busRows
 bus-amount b s a d q = ltb-false 127 a (neither (ltb 9 b) (ltb 127 a) (row-silent 8 (ltb 9 b || ltb 127 a) (q .0)) .1)
 
 -- No byte of its bus is out of range.
-pub bus-bytes : (b s a d : ℕ) → Silent (busRows b s a d) → outFrom (104 + 3 * b) (s ∷ extended a ∷ d ∷ []) ≡ none
+pub bus-bytes : (b s a d : ℕ) → Silent (busRows b s a d) → outFrom fields (104 + 3 * b) (s ∷ extended a ∷ d ∷ []) ≡ none
 unfolding busRows
-bus-bytes b s a d q = row-at-silent 11 (outFrom (104 + 3 * b) (s ∷ extended a ∷ d ∷ [])) (q .1 .1 .0)
+bus-bytes b s a d q = row-at-silent 11 (outFrom fields (104 + 3 * b) (s ∷ extended a ∷ d ∷ [])) (q .1 .1 .0)
 
 -- Its bus is not half used.
 pub bus-whole : (b s a d : ℕ) → Silent (busRows b s a d) → halfUsed s d ≡ false

@@ -8,8 +8,9 @@ use lib.ListN.{set}
 use Rattle.answers.specs.declared.Outcome.{Outcome}
 use Rattle.answers.specs.Table.{Row, row, rowAt, done, first}
 use Rattle.answers.specs.Effect.{Effect, changed}
-use Rattle.fields.specs.Fields.{inRange, placeOf}
-use Rattle.patch.specs.Patch.{outFrom, halfUsed, patchRows}
+use Rattle.ranges.specs.Ranges.{outFrom}
+use Rattle.fields.specs.Fields.{fields, inRange, placeOf}
+use Rattle.patch.specs.Patch.{halfUsed, patchRows}
 
 -- From seven bits to eight: bit 6 is copied into bit 7.
 unfoldable pub extended : ℕ → ℕ
@@ -42,7 +43,7 @@ editRows parameter v =
 -- behind it.
 abbrev pub byteRows : ℕ → ℕ → ℕ → ℕ → List Row
 byteRows bus source amount destination =
-    rowAt 11 (outFrom (104 + 3 * bus) (source ∷ amount ∷ destination ∷ [])) ∷
+    rowAt 11 (outFrom fields (104 + 3 * bus) (source ∷ amount ∷ destination ∷ [])) ∷
     rowAt 12 (cond (halfUsed source destination) (some bus) none) ∷ []
 
 -- The tests of a 0BH edit: 8, 14, 11, 12. Amounts have the range of place 105 on every bus.

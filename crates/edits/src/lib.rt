@@ -15,7 +15,7 @@ use fields::FoundPlace;
 use fields::Parameter;
 use fields::SOURCE;
 use fields::SOURCE_AT;
-use fields::lies_between;
+use ranges::lies_between;
 ghost use mathlib.Core.Path.{_≡_};
 ghost use Prim.Native.Nat.{_≤_};
 ghost use Rattle.answers.specs.Effect.{Gives, tested};

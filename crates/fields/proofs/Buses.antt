@@ -4,9 +4,10 @@ use mathlib.Core.Bool.{Bool, true, _&&_}
 use Prim.Native.Nat.{ℕ, _+_, _*_, _≤_, _<_}
 use native.Mathlib.Omega.{arith}
 use lib.Dec.{T, eqb, leb, ltb, eqb→eq, leb→le, ltb→lt}
+use Rattle.ranges.specs.Ranges.{inRow}
+use Rattle.ranges.proofs.Below.{parts, each, at}
+use Rattle.ranges.proofs.Between.{Lies, plain, positive, negative, lies}
 use Rattle.fields.specs.Fields.{fields, leastAt, greatestAt, inRange}
-use Rattle.fields.proofs.Below.{parts, each, at}
-use Rattle.fields.proofs.Between.{Lies, plain, positive, negative, lies}
 
 -- Two places have the same bounds.
 abbrev alike : ℕ → ℕ → Bool
@@ -21,7 +22,7 @@ all-buses = tt
 
 -- Byte j of bus b has the range of byte j of bus 0.
 pub bus-range : (b j x : ℕ) → b ≤ 9 → j < 3 → inRange (104 + 3 * b + j) x ≡ inRange (104 + j) x
-unfolding inRange
+unfolding inRow
 bus-range b j x h l =
     let k = 104 + 3 * b + j in
     let t = at (λ j. alike (104 + 3 * b + j) (104 + j)) 3 (at bus-alike 10 all-buses b (omega arith)) j l in
@@ -29,15 +30,15 @@ bus-range b j x h l =
     rw (eqb→eq (leastAt k) (leastAt (104 + j)) (q .0), eqb→eq (greatestAt k) (greatestAt (104 + j)) (q .1))
 
 below : (k x : ℕ) → T (leb (leastAt k) (greatestAt k) && ltb (greatestAt k) 128) → inRange k x ≡ true → x < 128
-unfolding inRange
+unfolding inRow
 below k x t e =
     let q = parts (leb (leastAt k) (greatestAt k)) (ltb (greatestAt k) 128) t in
     go (leb→le _ _ (q .0)) (ltb→lt _ _ (q .1)) (lies (leastAt k) (greatestAt k) x e)
   where
     go : leastAt k ≤ greatestAt k → greatestAt k < 128 → Lies (leastAt k) (greatestAt k) x → x < 128
-    go up small (plain l₁ l₂ l₃) = omega arith
-    go up small (positive l₁ l₂ l₃) = omega arith
+    go up small (plain l₁ l₂ l₃ l₄) = omega arith
     go up small (negative l₁ l₂ l₃) = absurd (omega arith)
+    go up small (positive l₁ l₂ l₃) = omega arith
 
 -- An accepted source is below 128.
 pub source-below : (b s : ℕ) → b ≤ 9 → inRange (104 + 3 * b) s ≡ true → s < 128

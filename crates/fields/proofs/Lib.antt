@@ -1,6 +1,5 @@
-pub mod Below
-pub mod Between
 pub mod Rules
+pub mod Flat
 pub mod Signs
 pub mod Buses
 pub mod Widths

@@ -1,16 +1,15 @@
 -- The rule of the table holds: its parts, each shown by one test over the whole.
-use Rattle.fields.specs.Rule.{Rule}
-use Rattle.fields.proofs.Rules.{rows, places, bounds-bytes, accepted-byte, apart}
+use Rattle.fields.specs.promises.Rule.{Rule}
+use Rattle.fields.proofs.Rules.{rows, fields-rule, apart}
 use Rattle.fields.proofs.Rules.{parameter-number, parameter-known, number-place, place-then-parameter, parameter-then-place}
 use Rattle.fields.proofs.Rules.{unused-nowhere, name-unnumbered, bus-unnumbered}
 use Rattle.fields.proofs.Places.{place-past}
-use Rattle.fields.proofs.Signs.{ordered, with-sign, amount-goes, detune-goes, name-goes, source-goes, bus-amount-goes, destination-goes}
+use Rattle.fields.proofs.Signs.{amount-goes, detune-goes, name-goes, source-goes, bus-amount-goes, destination-goes}
 
 pub rule : Rule
 rule = record {
-  numbers = rows;
-  place = places;
-  bytes = bounds-bytes;
+  rows = rows;
+  of-tables = fields-rule;
   numbered = λ k l h. (_, (parameter-number k l h, parameter-known k l h));
   placed = λ n h u. let p = number-place n h u in (p .0, (p .1 .low, (p .1 .high, p .1 .place)));
   there = place-then-parameter;
@@ -19,14 +18,11 @@ rule = record {
   above = place-past;
   name-unnumbered = name-unnumbered;
   bus-unnumbered = bus-unnumbered;
-  ordered = ordered;
-  with-sign = with-sign;
   amount = amount-goes;
   detune = detune-goes;
   name = name-goes;
   bus-source = source-goes;
   bus-amount = bus-amount-goes;
   bus-destination = destination-goes;
-  accepted = accepted-byte;
   apart = apart;
 }

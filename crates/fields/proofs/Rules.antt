@@ -1,52 +1,37 @@
 -- The rules of the whole table. Each is one test, computed over the rows or the parameter numbers, and what it says at each.
 use mathlib.Core.Path.{_≡_, refl, sym, ap, _∙_, subst}
 use mathlib.Core.Bool.{Bool, true, false, cond, not, _&&_}
+use mathlib.Core.List.{[]}
 use mathlib.Core.Option.{Option, none, some}
 use Prim.Native.Nat.{ℕ, _+_, _≤_, _<_}
 use native.Mathlib.Omega.{arith}
 use lib.Dec.{T, eqb, leb, ltb, eqb→eq, leb→le, ltb→lt, T-not}
 use lib.ListN.{length, List·getD-eq-default}
 use borrow.Author.Tests.{lt-ltb, le-ltb, le-leb, lt-leb, ne-eqb, ltb-true, ltb-false, leb-true, leb-false}
-use Rattle.fields.specs.Fields.{fields, placeAt, parameterAt, leastAt, greatestAt, between, inRange, searchFrom, placeOf, parameterOf}
-use Rattle.fields.specs.Rule.{unused}
-use Rattle.fields.proofs.Below.{parts, holds, each, at}
-use Rattle.fields.proofs.Between.{Lies, plain, positive, negative, lies, narrow, narrow-byte, narrow-apart}
+use Rattle.ranges.specs.Ranges.{between, inRow}
+use Rattle.ranges.specs.promises.Rule as table
+use Rattle.ranges.proofs.Below.{parts, holds, each, at}
+use Rattle.ranges.proofs.Between.{Lies, plain, positive, negative, lies, narrow-apart}
+use Rattle.ranges.proofs.Runs.{narrow-row}
+use Rattle.ranges.proofs.Rule.{right, rule}
+use Rattle.fields.specs.Fields.{fields, placeAt, parameterAt, leastAt, greatestAt, inRange, searchFrom, placeOf, parameterOf}
+use Rattle.fields.specs.promises.Rule.{unused}
 
-abbrev place-right : ℕ → Bool
-place-right k = eqb (placeAt k) k
-
-all-places : T (each place-right 134)
-unfolding fields
-all-places = tt
-
--- Each place stands at its own row.
-pub places : (k : ℕ) → k < 134 → placeAt k ≡ k
-places k h = eqb→eq (placeAt k) k (at place-right 134 all-places k h)
-
-abbrev bytes-right : ℕ → Bool
-bytes-right k = ltb (leastAt k) 256 && ltb (greatestAt k) 256
-
-all-bytes : T (each bytes-right 134)
-unfolding fields
-all-bytes = tt
-
-pub rows : length fields ≡ 536
+pub rows : length fields ≡ 134
 unfolding fields
 rows = refl
 
+-- The rows are right: places, bounds, signs.
+all-right : T (right fields)
+unfolding fields
+all-right = tt
+
+pub fields-rule : table.Rule fields
+fields-rule = rule fields all-right
+
 -- Past the table there is nothing but 0.
 pub past : (k : ℕ) → 134 ≤ k → (leastAt k ≡ 0) × (greatestAt k ≡ 0)
-past k h = (List·getD-eq-default fields 0 (omega (arith, rows)), List·getD-eq-default fields 0 (omega (arith, rows)))
-
--- The bounds of every place are bytes.
-pub bounds-bytes : (k : ℕ) → (leastAt k < 256) × (greatestAt k < 256)
-bounds-bytes k = go (ltb k 134) refl
-  where
-    go : (t : Bool) → ltb k 134 ≡ t → (leastAt k < 256) × (greatestAt k < 256)
-    go true q =
-        let t = parts (ltb (leastAt k) 256) (ltb (greatestAt k) 256) (at bytes-right 134 all-bytes k (ltb-true k 134 q)) in
-        (ltb→lt _ _ (t .0), ltb→lt _ _ (t .1))
-    go false q = let z = past k (ltb-false k 134 q) in omega (arith, z .0, z .1)
+past k h = let out : length fields ≤ k = omega (arith, rows) in rw (List·getD-eq-default fields [] out) (refl, refl)
 
 abbrev is-at : Option ℕ → ℕ → Bool
 is-at none k = false
@@ -181,22 +166,15 @@ parameter-then-place k n e = go (leb 8 k) (ltb k 104) refl refl
     go true false q r = let f = bus-unnumbered k (ltb-false k 104 r) in let z : _≡_ {A = ℕ} 0 1 = cc in absurd (omega arith)
     go false u q r = let f = name-unnumbered k (leb-false 8 k q) in let z : _≡_ {A = ℕ} 0 1 = cc in absurd (omega arith)
 
-abbrev narrow-right : ℕ → Bool
-narrow-right k = narrow (leastAt k) (greatestAt k)
-
-all-narrow : T (each narrow-right 134)
+-- Every range spans at most 128 bytes.
+pub all-narrow : T (each (narrow-row fields) (length fields))
 unfolding fields
 all-narrow = tt
 
--- An accepted byte is a byte.
-pub accepted-byte : (k b : ℕ) → k < 134 → inRange k b ≡ true → b < 256
-unfolding inRange
-accepted-byte k b h e = narrow-byte (leastAt k) (greatestAt k) b (at narrow-right 134 all-narrow k h) e
-
 -- No place accepts both a byte and the one 128 higher.
 pub apart : (k b : ℕ) → k < 134 → inRange k b ≡ true → inRange k (b + 128) ≡ true → ⊥
-unfolding inRange
-apart k b h e f = narrow-apart (leastAt k) (greatestAt k) b (at narrow-right 134 all-narrow k h) e f
+unfolding inRow
+apart k b h e f = narrow-apart (leastAt k) (greatestAt k) b (at (narrow-row fields) (length fields) all-narrow k (omega (arith, rows))) e f
 
 abbrev name-right : ℕ → Bool
 name-right k = eqb (leastAt k) 0 && eqb (greatestAt k) 63
@@ -213,19 +191,19 @@ name-range k h =
 
 -- A place of the name accepts every byte of 0..63.
 pub name-accepts : (k b : ℕ) → k < 8 → b ≤ 63 → inRange k b ≡ true
-unfolding inRange between
+unfolding inRow between
 name-accepts k b h l =
     let r = name-range k h in
-    rw (r .0, r .1) (simp (le-ltb b 0 (omega arith), le-leb b 63 l))
+    rw (r .0, r .1) (simp (lt-ltb b 256 (omega arith), le-leb 0 b (omega arith), le-leb b 63 l))
 
 -- It accepts no other.
 pub name-byte : (k b : ℕ) → k < 8 → inRange k b ≡ true → b ≤ 63
-unfolding inRange
+unfolding inRow
 name-byte k b h e =
     let r = name-range k h in
     go (lies 0 63 b (rw (r .0, r .1) at e))
   where
     go : Lies 0 63 b → b ≤ 63
-    go (plain l₁ l₂ l₃) = l₃
-    go (positive l₁ l₂ l₃) = l₃
+    go (plain l₁ l₂ l₃ l₄) = l₃
     go (negative l₁ l₂ l₃) = omega arith
+    go (positive l₁ l₂ l₃) = l₂

@@ -1,17 +1,18 @@
 -- A field's range as its least value and its width, the greatest minus the least modulo 256: a byte lies in the range exactly when, less
 -- the least modulo 256, it is at most the width.
 use mathlib.Core.Path.{_≡_, refl}
-use mathlib.Core.Bool.{Bool, true, false, cond}
+use mathlib.Core.Bool.{Bool, true, false, cond, _&&_, _||_}
 use mathlib.Core.List.{List, [], _∷_}
 use Prim.Native.Nat.{ℕ, zero, suc, _+_, _-_, _/_, _%_, _≤_, _<_}
 use native.Mathlib.Nat.{le-of-suc-le-suc}
 use native.Mathlib.Omega.{arith}
-use lib.Dec.{leb, ltb}
+use lib.Dec.{leb}
 use lib.ListN.{getD}
-use borrow.Author.Tests.{ltb-true, ltb-false, leb-true, leb-false, lt-ltb}
-use Rattle.fields.specs.Fields.{leastAt, greatestAt, between, inRange}
+use borrow.Author.Tests.{leb-true, leb-false, lt-ltb}
+use Rattle.ranges.specs.Ranges.{between, inRow}
+use Rattle.fields.specs.Fields.{leastAt, greatestAt, inRange}
 use Rattle.fields.specs.code.Columns.{widthAt, rangeAt}
-use Rattle.fields.proofs.Rules.{past, bounds-bytes}
+use Rattle.fields.proofs.Rules.{past, fields-rule}
 
 -- What f gives at the n numbers from k on.
 unfoldable pub column : (ℕ → ℕ) → ℕ → ℕ → List ℕ
@@ -29,32 +30,32 @@ column-at f n j h = let z : 0 + j ≡ j = omega arith in rw z at (column-get f n
 
 between-width : (l g b r w : ℕ) → l < 256 → g < 256 → b < 256 → r < 256 → (r + l) % 256 ≡ b → w ≡ (g + (256 - l)) % 256 → between l g b ≡ leb r w
 unfolding between
-between-width l g b r w hl hg hb hr er ew = go (leb l g) (ltb b l) (leb b g) (leb r w) refl refl refl refl
+between-width l g b r w hl hg hb hr er ew = rw (lt-ltb b 256 hb) (go (leb l g) (leb l b) (leb b g) (leb r w) refl refl refl refl)
   where
-    go : (t u v x : Bool) → leb l g ≡ t → ltb b l ≡ u → leb b g ≡ v → leb r w ≡ x → cond t (cond u false v) (cond u v (ltb b 256)) ≡ x
-    go true true v true q₁ q₂ q₃ q₄ = let a = leb-true l g q₁ in let c = ltb-true b l q₂ in let d = leb-true r w q₄ in absurd (omega arith)
-    go true true v false q₁ q₂ q₃ q₄ = refl
-    go true false true true q₁ q₂ q₃ q₄ = refl
-    go true false true false q₁ q₂ q₃ q₄ =
-        let a = leb-true l g q₁ in let c = ltb-false b l q₂ in let e = leb-true b g q₃ in let d = leb-false r w q₄ in absurd (omega arith)
-    go true false false true q₁ q₂ q₃ q₄ =
-        let a = leb-true l g q₁ in let c = ltb-false b l q₂ in let e = leb-false b g q₃ in let d = leb-true r w q₄ in absurd (omega arith)
-    go true false false false q₁ q₂ q₃ q₄ = refl
-    go false true true true q₁ q₂ q₃ q₄ = refl
-    go false true true false q₁ q₂ q₃ q₄ =
-        let a = leb-false l g q₁ in let c = ltb-true b l q₂ in let e = leb-true b g q₃ in let d = leb-false r w q₄ in absurd (omega arith)
-    go false true false true q₁ q₂ q₃ q₄ =
-        let a = leb-false l g q₁ in let c = ltb-true b l q₂ in let e = leb-false b g q₃ in let d = leb-true r w q₄ in absurd (omega arith)
-    go false true false false q₁ q₂ q₃ q₄ = refl
-    go false false v true q₁ q₂ q₃ q₄ = lt-ltb b 256 hb
-    go false false v false q₁ q₂ q₃ q₄ =
-        let a = leb-false l g q₁ in let c = ltb-false b l q₂ in let d = leb-false r w q₄ in absurd (omega arith)
+    go : (t u v x : Bool) → leb l g ≡ t → leb l b ≡ u → leb b g ≡ v → leb r w ≡ x → cond t (u && v) (u || v) ≡ x
+    go true true true true q₁ q₂ q₃ q₄ = refl
+    go true true true false q₁ q₂ q₃ q₄ =
+        let a = leb-true l g q₁ in let c = leb-true l b q₂ in let e = leb-true b g q₃ in let d = leb-false r w q₄ in absurd (omega arith)
+    go true true false true q₁ q₂ q₃ q₄ =
+        let a = leb-true l g q₁ in let c = leb-true l b q₂ in let e = leb-false b g q₃ in let d = leb-true r w q₄ in absurd (omega arith)
+    go true true false false q₁ q₂ q₃ q₄ = refl
+    go true false v true q₁ q₂ q₃ q₄ = let a = leb-true l g q₁ in let c = leb-false l b q₂ in let d = leb-true r w q₄ in absurd (omega arith)
+    go true false v false q₁ q₂ q₃ q₄ = refl
+    go false true v true q₁ q₂ q₃ q₄ = refl
+    go false true v false q₁ q₂ q₃ q₄ =
+        let a = leb-false l g q₁ in let c = leb-true l b q₂ in let d = leb-false r w q₄ in absurd (omega arith)
+    go false false true true q₁ q₂ q₃ q₄ = refl
+    go false false true false q₁ q₂ q₃ q₄ =
+        let a = leb-false l g q₁ in let c = leb-false l b q₂ in let e = leb-true b g q₃ in let d = leb-false r w q₄ in absurd (omega arith)
+    go false false false true q₁ q₂ q₃ q₄ =
+        let a = leb-false l g q₁ in let c = leb-false l b q₂ in let e = leb-false b g q₃ in let d = leb-true r w q₄ in absurd (omega arith)
+    go false false false false q₁ q₂ q₃ q₄ = refl
 
 -- A byte b of place k, by what is left of it above the least.
 pub in-range-width : (k b r : ℕ) → b < 256 → r < 256 → (r + leastAt k) % 256 ≡ b → inRange k b ≡ leb r (widthAt k)
-unfolding inRange
+unfolding inRow
 in-range-width k b r hb hr e =
-    let bounds = bounds-bytes k in
+    let bounds = fields-rule .bytes k in
     between-width (leastAt k) (greatestAt k) b r (widthAt k) (bounds .0) (bounds .1) hb hr e refl
 
 -- The two columns of the whole table.
@@ -71,14 +72,14 @@ in-range-columns k b r h hb hr e = rw (column-at widthAt 134 k h) (in-range-widt
 -- The same by the two in one number.
 pub in-range-number : (k b r n : ℕ) → b < 256 → r < 256 → n ≡ rangeAt k → (r + n % 256) % 256 ≡ b → inRange k b ≡ leb r (n / 256)
 in-range-number k b r n hb hr en e =
-    let small = bounds-bytes k .0 in
+    let small = fields-rule .bytes k .0 in
     let low : n % 256 ≡ leastAt k = omega arith in
     let high : n / 256 ≡ widthAt k = omega arith in
     rw high (in-range-width k b r hb hr (rw low at e))
 
 -- Its upper part is a byte.
 pub number-high : (k n : ℕ) → n ≡ rangeAt k → n / 256 < 256
-number-high k n en = let small = bounds-bytes k .0 in omega arith
+number-high k n en = let small = fields-rule .bytes k .0 in omega arith
 
 -- Past the table it is 0.
 pub range-past : (k : ℕ) → 134 ≤ k → rangeAt k ≡ 0

@@ -4,7 +4,7 @@ use Prim.Native.Nat.{ℕ, zero, suc, _+_, _*_, _/_, _%_, _^_, _≤_}
 use native.Mathlib.Omega.{arith}
 use lib.Dec.{T, eqb, eqb→eq}
 use Rattle.fields.specs.code.Columns.{InWord}
-use Rattle.fields.proofs.Below.{each, at}
+use Rattle.ranges.proofs.Below.{each, at}
 
 -- The part j of a number whose parts have w bits.
 abbrev part : ℕ → ℕ → ℕ → ℕ

@@ -1,4 +1,3 @@
 pub mod Fields
-pub mod Values
-pub mod Rule
+pub mod promises
 pub mod code

@@ -7,14 +7,15 @@ use crate::columns::eight_places;
 use crate::columns::four_ranges;
 use crate::rows::FIELDS;
 use crate::rows::NONE;
-use crate::rows::NUMBERS;
 use crate::rows::R0;
 use crate::rows::R104;
 use crate::rows::R105;
 use crate::rows::R106;
 ghost use mathlib.Core.Path.{_≡_};
+ghost use mathlib.Core.List.{[]};
+ghost use Prim.Native.Nat.{_<_};
 ghost use lib.ListN.{getD};
-ghost use Rattle.fields.specs.Fields.{fields, leastAt, greatestAt, between, inRange, placeOf, parameterOf};
+ghost use Rattle.fields.specs.Fields.{fields, leastAt, greatestAt, inRange, placeOf, parameterOf};
 ghost use Rattle.fields.specs.code.Columns.{foundPlace, foundParameter};
 
 // A row: a byte place, its parameter number, its least and its greatest value. Values are bytes as stored: a least value above the
@@ -63,28 +64,30 @@ pub enum FoundParameter {
     Nothing,
 }
 
-// A number of the table, 0 past its end.
-fn entry(i: usize) -> u8
-    ensures { λ r. ⌜ r ≡ getD fields i 0 ⌝ }
+// A number of a place's row, 0 past the table. The callers below name a column.
+fn entry(place: BytePlace, column: usize) -> u8
+    requires { ⌜ column < 4 ⌝ }
+    ensures { λ r. ⌜ r ≡ getD (getD fields (place .0) []) column 0 ⌝ }
 {
-    if i < NUMBERS {
-        return FIELDS[i];
+    let k = place.0 as usize;
+    if PLACES <= k {
+        return 0;
     }
-    0
+    FIELDS[k * 4 + column]
 }
 
 // The least value of a place, as a byte; 0 past the table.
 pub fn least_of(place: BytePlace) -> u8
     ensures { λ r. ⌜ r ≡ leastAt (place .0) ⌝ }
 {
-    entry(place.0 as usize * 4 + 2)
+    entry(place, 2)
 }
 
 // The greatest value of a place, as a byte; 0 past the table.
 pub fn greatest_of(place: BytePlace) -> u8
     ensures { λ r. ⌜ r ≡ greatestAt (place .0) ⌝ }
 {
-    entry(place.0 as usize * 4 + 3)
+    entry(place, 3)
 }
 
 // The place of a parameter, by the table's columns.
@@ -107,28 +110,11 @@ pub fn parameter_of(place: BytePlace) -> FoundParameter
     if PLACES <= k {
         return FoundParameter::Nothing;
     }
-    let n = entry(k * 4 + 1);
+    let n = entry(place, 1);
     if n == NONE {
         return FoundParameter::Nothing;
     }
     FoundParameter::Of(Parameter(n))
-}
-
-// A byte lies between two bounds; where the least is above the greatest, the range goes on from 255 to 0.
-pub fn lies_between(least: u8, greatest: u8, b: u8) -> bool
-    ensures { λ r. ⌜ r ≡ between least greatest b ⌝ }
-{
-    if least <= greatest {
-        if b < least {
-            return false;
-        }
-        b <= greatest
-    } else {
-        if b < least {
-            return b <= greatest;
-        }
-        true
-    }
 }
 
 // A byte lies in the range of its field. Past the table both bounds are 0.

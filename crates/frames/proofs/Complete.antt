@@ -17,7 +17,7 @@ use Rattle.answers.proofs.Lists.{all-weaken}
 use Rattle.frames.specs.Bytes.{ByteKind, dataByte, exclusive, endOfExclusive, otherStatus, realTime}
 use Rattle.frames.specs.Bytes.{byteKind, ends, isRealTime, body, withoutRealTime, framed}
 use Rattle.frames.specs.Stream.{Report, report, messageAt, firstFrom, walk}
-use Rattle.frames.specs.Scan.{outside, scan}
+use Rattle.frames.specs.code.Scan.{outside, scan}
 use Rattle.frames.proofs.Bytes.{lies-in, kind-is, body-on, body-stop}
 use Rattle.frames.proofs.Scan.{DataByte, further}
 use Rattle.frames.proofs.Walk.{cut-message, closed-message, interrupted-message}

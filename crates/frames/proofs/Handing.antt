@@ -13,7 +13,7 @@ use Rattle.answers.specs.Table.{Verdict}
 use Rattle.frames.specs.Bytes.{body}
 use Rattle.frames.specs.code.Extent.{ahead}
 use Rattle.frames.specs.Stream.{messageAt}
-use Rattle.frames.specs.Scan.{outside, inside, scan}
+use Rattle.frames.specs.code.Scan.{outside, inside, scan}
 use Rattle.frames.proofs.Extent.{split}
 use Rattle.frames.proofs.Scan.{further, scan-outside}
 use Rattle.frames.proofs.Walk.{scan-cut, scan-closed, scan-again, scan-broken}

@@ -8,7 +8,7 @@ use lib.Dec.{leb}
 use lib.ListN.{length, drop}
 use lib.Seq.{drop-append-seam}
 use Rattle.answers.specs.Table.{Verdict, done, refused}
-use Rattle.answers.specs.Effect.{Keeps}
+use Rattle.answers.specs.promises.Decides.{Keeps}
 use Rattle.frames.specs.Stream.{packedIn, readInto}
 
 pub reading-keeps : (f e : ℕ) (v : Verdict) (lent : List ℕ)

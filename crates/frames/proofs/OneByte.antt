@@ -10,7 +10,7 @@ use Rattle.answers.specs.Table.{Verdict, refused, outcome}
 use Rattle.answers.proofs.Lists.{all-append}
 use Rattle.frames.specs.Bytes.{ByteKind, dataByte, exclusive, endOfExclusive, otherStatus, realTime, byteKind, framed}
 use Rattle.frames.specs.Stream.{Report, report}
-use Rattle.frames.specs.Scan.{outside, inside, scan}
+use Rattle.frames.specs.code.Scan.{outside, inside, scan}
 use Rattle.frames.proofs.Bytes.{kind-is}
 use Rattle.frames.proofs.Scan.{DataByte, scan-data, skip-data}
 

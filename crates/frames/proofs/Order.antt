@@ -8,8 +8,8 @@ use lib.ListN.{length}
 use Rattle.answers.specs.Lists.{All}
 use Rattle.answers.specs.Table.{Verdict}
 use Rattle.frames.specs.Stream.{Report, report}
-use Rattle.frames.specs.Scan.{outside}
-use Rattle.frames.specs.Order.{InOrder}
+use Rattle.frames.specs.code.Scan.{outside}
+use Rattle.frames.specs.promises.Order.{InOrder}
 use Rattle.frames.proofs.Scan.{ahead, scan-exclusive}
 use Rattle.frames.proofs.Walk.{scan-order}
 

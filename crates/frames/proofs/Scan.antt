@@ -14,7 +14,7 @@ use Rattle.answers.specs.Lists.{All}
 use Rattle.answers.specs.Table.{Verdict}
 use Rattle.frames.specs.Bytes.{ByteKind, dataByte, exclusive, endOfExclusive, otherStatus, realTime, byteKind}
 use Rattle.frames.specs.Stream.{Report, report}
-use Rattle.frames.specs.Scan.{State, outside, inside, next, emit, scan}
+use Rattle.frames.specs.code.Scan.{State, outside, inside, next, emit, scan}
 use Rattle.frames.proofs.Bytes.{Lies, lies, kind-is}
 
 -- One place further, and n after it.

@@ -15,8 +15,8 @@ use Rattle.answers.specs.Lists.{All}
 use Rattle.answers.specs.Table.{Verdict, refused, outcome}
 use Rattle.frames.specs.Bytes.{ByteKind, dataByte, exclusive, endOfExclusive, otherStatus, realTime, byteKind, ends, body, withoutRealTime, framed}
 use Rattle.frames.specs.Stream.{Report, report, messageAt, firstFrom, walk, reportsFrom, reports}
-use Rattle.frames.specs.Scan.{outside, inside, scan}
-use Rattle.frames.specs.Order.{InOrder, ReportsOf}
+use Rattle.frames.specs.code.Scan.{outside, inside, scan}
+use Rattle.frames.specs.promises.Order.{InOrder, ReportsOf}
 use Rattle.frames.proofs.Bytes.{lies-in, kind-is, Ending, closing, starting, breaking, ending, behind-body, body-within}
 use Rattle.frames.proofs.Scan.{further, scan-outside}
 

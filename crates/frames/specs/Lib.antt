@@ -1,5 +1,4 @@
 pub mod Bytes
 pub mod Stream
-pub mod Scan
-pub mod Order
 pub mod code
+pub mod promises

@@ -1,2 +1,3 @@
+pub mod Scan
 pub mod Extent
 pub mod Blocks

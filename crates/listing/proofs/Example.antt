@@ -3,14 +3,15 @@ use mathlib.Core.Path.{refl}
 use Rattle.text.specs.Text.{ascii, digitsOf, row}
 use Rattle.frames.specs.Bytes.{body, withoutRealTime, byteKind}
 use Rattle.frames.specs.Stream.{reports, walk, firstFrom, messageAt}
-use Rattle.fields.specs.Fields.{fields, placeOf, searchFrom, inRange, between}
+use Rattle.ranges.specs.Ranges.{inRow, between}
+use Rattle.fields.specs.Fields.{fields, placeOf, searchFrom}
 use Rattle.edits.specs.Edits.{editRows, storedFor, extended}
 use Rattle.messages.specs.Kinds.{kindOf}
 use Rattle.messages.specs.Judge.{judge}
 use Rattle.listing.specs.Listing.{header, lines, total, listingOf}
-use Rattle.listing.specs.Example.{Example}
+use Rattle.listing.specs.promises.Example.{Example}
 
 pub example : Example
 unfolding listingOf header lines total ascii digitsOf row reports walk firstFrom messageAt body withoutRealTime byteKind judge kindOf editRows placeOf
-    searchFrom fields storedFor extended inRange between
+    searchFrom fields storedFor extended inRow between
 example = refl

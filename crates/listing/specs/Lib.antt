@@ -1,3 +1,3 @@
 pub mod Listing
-pub mod Example
+pub mod promises
 pub mod code

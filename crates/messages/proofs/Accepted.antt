@@ -1,26 +1,28 @@
 -- What an accepted message is: its record, by its content, and the nibbles that its packed bytes come from.
-use mathlib.Core.Path.{_≡_, refl, ap}
+use mathlib.Core.Path.{_≡_, refl, sym, ap, _∙_}
 use mathlib.Core.Bool.{false}
 use mathlib.Core.List.{List}
 use mathlib.Core.Option.{none}
 use Prim.Native.Nat.{ℕ, _+_, _*_, _<_}
 use native.Mathlib.Omega.{arith}
-use lib.ListN.{length, take, drop}
-use Rattle.answers.specs.Table.{done, answerOf, Silent}
+use lib.ListN.{length, take, drop, getD}
+use Rattle.answers.specs.Table.{done, answerOf}
 use Rattle.answers.proofs.Rows.{first-passed, zero-silent, row-silent, row-at-silent, row-equal}
+use Rattle.answers.specs.promises.Decides.{Silent}
 use Rattle.frames.specs.Bytes.{framed}
 use Rattle.nibbles.specs.Nibbles.{pack, firstWide, wideFrom}
 use Rattle.messages.specs.Kinds.{Kind, ofDump, ofShort, unknown, kindOf, Filed, sizeOf, packedSize, lengthOf, isUnknown, countOf}
 use Rattle.messages.specs.Judge.{byteAt, dataOf, packedOf, dataRows, numberIn, bytesFrom, kindRows, messageRows, recordOf, judge}
 use Rattle.messages.proofs.Filed.{found-filed, filed-sized}
 use Rattle.messages.proofs.Numbers.{message-refusals}
-use Rattle.messages.proofs.Content.{framed-length, framed-data}
+use Rattle.messages.proofs.Content.{framed-length, framed-byte, framed-data}
 
 pub record Accepted (c : List ℕ) : Type 0 where
   pub opcode : ℕ
   pub bytes : List ℕ
   pub size : ℕ
-  pub sized : packedSize (kindOf opcode) ≡ size
+  pub long : 2 < length c
+  pub sized : packedSize (kindOf (getD c 2 0)) ≡ size
   pub verdict : judge (framed c) ≡ done opcode bytes (pack (take (2 * size) (drop 4 c)))
   pub narrow : firstWide (take (2 * size) (drop 4 c)) ≡ none
   pub fits : 0 < size → 4 + 2 * size < length c
@@ -34,29 +36,37 @@ accepted c z =
     let s = zero-silent (messageRows m) (recordOf k m) (message-refusals m) z in
     let known = row-silent 6 (isUnknown k) (s .1 .1 .0) in
     let long = row-equal 7 (length m) (lengthOf k) (s .1 .1 .1 .0) in
-    by-kind k known (found-filed (byteAt m 3) known) long (s .1 .1 .1 .1) (first-passed (messageRows m) (recordOf k m) s)
+    by-kind k refl known (found-filed (byteAt m 3) known) long (s .1 .1 .1 .1) (first-passed (messageRows m) (recordOf k m) s)
   where
-    by-kind : (k : Kind) → isUnknown k ≡ false → Filed k → length (framed c) ≡ lengthOf k → Silent (kindRows k (framed c))
+    -- The byte behind the device finds the kind.
+    found : (k : Kind) → kindOf (byteAt (framed c) 3) ≡ k → 2 < length c → kindOf (getD c 2 0) ≡ k
+    found k q h = sym (ap kindOf (framed-byte c 2 h)) ∙ q
+
+    by-kind : (k : Kind) → kindOf (byteAt (framed c) 3) ≡ k → isUnknown k ≡ false → Filed k → length (framed c) ≡ lengthOf k → Silent (kindRows k (framed c))
         → judge (framed c) ≡ recordOf k (framed c) → Accepted c
-    by-kind (ofDump k) u f l s v =
+    by-kind (ofDump k) q u f l s v =
         let size = sizeOf (k .packed) in
         let long : length c ≡ 5 + 2 * size = omega (arith, framed-length c, filed-sized (ofDump k) f .0) in
         record {
           opcode = k .opcode;
           bytes = numberIn (k .behind) (byteAt (framed c) 4);
           size = size;
-          sized = ap packedSize f;
+          long = omega arith;
+          sized = ap packedSize (found (ofDump k) q (omega arith));
           verdict = rw (framed-data size c long) at v;
           narrow = rw (framed-data size c long) at (row-at-silent 9 (firstWide (dataOf size (framed c))) (s .1 .0));
           fits = λ h. omega arith;
         }
-    by-kind (ofShort k) u f l s v = record {
-      opcode = k .opcode;
-      bytes = bytesFrom (countOf (k .operands)) 4 (framed c);
-      size = 0;
-      sized = ap packedSize f;
-      verdict = v;
-      narrow = refl;
-      fits = λ h. absurd (omega arith);
-    }
-    by-kind unknown u f l s v = let y : _≡_ {A = ℕ} 0 1 = cc in absurd (omega arith)
+    by-kind (ofShort k) q u f l s v =
+        let long : 2 < length c = omega (arith, framed-length c, filed-sized (ofShort k) f .0) in
+        record {
+          opcode = k .opcode;
+          bytes = bytesFrom (countOf (k .operands)) 4 (framed c);
+          size = 0;
+          long = long;
+          sized = ap packedSize (found (ofShort k) q long);
+          verdict = v;
+          narrow = refl;
+          fits = λ h. absurd (omega arith);
+        }
+    by-kind unknown q u f l s v = let y : _≡_ {A = ℕ} 0 1 = cc in absurd (omega arith)

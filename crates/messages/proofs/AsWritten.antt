@@ -8,8 +8,9 @@ use native.Mathlib.Omega.{arith}
 use lib.ListN.{length, take, getD, length-append, drop-of-length-le}
 use lib.Seq.{split-at, length-take-le}
 use borrow.Author.Tests.{eq-eqb}
-use Rattle.answers.specs.Table.{Verdict, done, refused, outcome, answerOf, Silent}
+use Rattle.answers.specs.Table.{Verdict, done, refused, outcome, answerOf}
 use Rattle.answers.proofs.Rows.{done-passed, row-silent, row-equal}
+use Rattle.answers.specs.promises.Decides.{Silent}
 use Rattle.frames.specs.Bytes.{framed}
 use Rattle.nibbles.specs.Nibbles.{nibbles, pack, sum}
 use Rattle.nibbles.proofs.Laws.{length-pack, nibbles-pack}

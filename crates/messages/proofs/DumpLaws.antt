@@ -10,8 +10,9 @@ use lib.ListN.{length, length-append}
 use lib.Seq.{take-at, getD-at, getD-drop}
 use borrow.Author.Tests.{eq-eqb, ne-eqb}
 use Rattle.answers.specs.Lists.{All}
-use Rattle.answers.specs.Table.{row, Verdict, done, refused, first, outcome, answerOf, Silent}
+use Rattle.answers.specs.Table.{row, Verdict, done, refused, first, outcome, answerOf}
 use Rattle.answers.proofs.Rows.{Refusals, first-passed, zero-silent, row-silent, row-at-silent, row-equal}
+use Rattle.answers.specs.promises.Decides.{Silent}
 use Rattle.nibbles.specs.Nibbles.{nibbles, pack, sum, firstWide}
 use Rattle.nibbles.proofs.Laws.{length-nibbles, pack-nibbles, nibbles-narrow, not-wide, wide-none}
 use Rattle.messages.specs.Kinds.{Dump, ofDump, Filed, sizeOf}

@@ -5,7 +5,7 @@ use mathlib.Core.List.{List, [], _∷_}
 use Prim.Native.Nat.{ℕ, _≤_}
 use native.Mathlib.Omega.{arith}
 use lib.Dec.{eqb}
-use borrow.Author.Tests.{eqb-true}
+use borrow.Author.Tests.{eqb-true, ne-eqb}
 use Rattle.answers.specs.Lists.{All}
 use Rattle.messages.specs.Kinds.{Kind, unknown, kinds, opcodeOf, among, kindOf, Filed, lengthOf, isUnknown, Sized}
 
@@ -35,6 +35,18 @@ among-opcode (k ∷ ks) o h = by-test (eqb o (opcodeOf k)) refl (among-opcode ks
 pub found-opcode : (o : ℕ) → isUnknown (kindOf o) ≡ false → o ≡ opcodeOf (kindOf o)
 unfolding kindOf
 found-opcode o h = among-opcode kinds o h
+
+-- What the last arm of a match over the opcodes of a list knows, besides A: it is none of them.
+abbrev pub Others : Type 0 → List Kind → ℕ → Type 0
+Others A [] o = A
+Others A (k ∷ ks) o = Others (A × (o ≡ opcodeOf k → ⊥)) ks o
+
+-- So no kind is found.
+pub no-kind : (A : Type 0) (ks : List Kind) (o : ℕ) → Others A ks o → A × (among ks o ≡ unknown)
+no-kind A [] o h = (h, refl)
+no-kind A (k ∷ ks) o h =
+    let r = no-kind (A × (o ≡ opcodeOf k → ⊥)) ks o h in
+    (r .0 .0, rw (ne-eqb o (opcodeOf k) (r .0 .1)) (r .1))
 
 -- What is found is one of the kinds.
 pub found-filed : (o : ℕ) → isUnknown (kindOf o) ≡ false → Filed (kindOf o)

@@ -1,7 +1,5 @@
 pub mod Filed
-pub mod Data
 pub mod Content
-pub mod Verdicts
 pub mod Long
 pub mod Numbers
 pub mod DumpLaws

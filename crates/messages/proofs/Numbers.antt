@@ -11,7 +11,7 @@ use Rattle.answers.proofs.Rows.{numberOf, Refusals, first-number, zero-silent, 
 use Rattle.nibbles.specs.Nibbles.{pack}
 use Rattle.edits.specs.Edits.{editRows, busRows}
 use Rattle.answers.specs.declared.Outcome.{Outcome}
-use Rattle.messages.specs.Kinds.{Packed, aPatch, anyBytes, Dump, Operands, anEdit, aBusEdit, Kind, ofDump, ofShort, unknown, countOf, kindOf, sizeOf}
+use Rattle.messages.specs.Kinds.{Packed, Dump, Operands, anEdit, aBusEdit, Kind, ofDump, ofShort, unknown, countOf, kindOf, sizeOf}
 use Rattle.messages.specs.Judge.{byteAt, dataOf, dataRows, packedRows, operandRows, bytesFrom, kindRows, messageRows, recordOf, judge}
 use Rattle.messages.specs.Layout.{behindFor, dumpGiven, givenRows}
 
@@ -24,8 +24,7 @@ abbrev RowsInTable : List Row → Type 0
 RowsInTable rows = All (λ r. InTable (numberOf r)) rows
 
 packed-numbers : (q : Packed) (p : List ℕ) → RowsInTable (packedRows q p)
-packed-numbers aPatch p = omega arith
-packed-numbers (anyBytes count) p = tt
+packed-numbers q p = omega arith
 
 operand-numbers : (o : Operands) (b : List ℕ) → RowsInTable (operandRows o b)
 unfolding editRows busRows
@@ -41,7 +40,7 @@ kind-numbers unknown m = tt
 
 -- The rows of packed bytes and of a short message are refusals.
 pub packed-refusals : (q : Packed) (p : List ℕ) → Refusals (packedRows q p)
-packed-refusals q p = all-weaken _ _ (λ r h z. omega arith) (packedRows q p) (packed-numbers q p)
+packed-refusals q p = omega arith
 
 pub operand-refusals : (o : Operands) (b : List ℕ) → Refusals (operandRows o b)
 operand-refusals o b = all-weaken _ _ (λ r h z. omega arith) (operandRows o b) (operand-numbers o b)

@@ -15,11 +15,12 @@ use Rattle.answers.proofs.Lists.{all-append, all-left, all-right, all-at}
 use Rattle.answers.proofs.Rows.{row-silent, row-equal}
 use Rattle.nibbles.specs.Nibbles.{nibbles, pack, total, sum}
 use Rattle.nibbles.proofs.Laws.{length-nibbles, nibbles-narrow, not-wide, total-append, pack-low, pack-high, low-changes-sum, high-changes-sum}
+use Rattle.patch.specs.Patch.{halfFrom}
 use Rattle.nibbles.proofs.Laws.{Position, at-low, at-high, at-sum, position}
 use Rattle.messages.specs.Kinds.{anyBytes, Dump, ofDump, masterParameters, master, Filed, kindOf}
 use Rattle.messages.specs.Judge.{dataRows, misnumbered, byteAt, judge}
 use Rattle.messages.specs.Layout.{messageOf, dump, behindFor}
-use Rattle.messages.specs.OneNibble.{AnyBytesNibble, MasterNibble}
+use Rattle.messages.specs.promises.OneNibble.{AnyBytesNibble, MasterNibble}
 use Rattle.messages.proofs.DumpLaws.{size, dump-tested, dump-passed}
 
 -- A sum does not notice a byte that moved by 128.
@@ -35,7 +36,7 @@ module _ (k : Dump) (filed : Filed (ofDump k)) (count : ℕ) (any : k .packed �
 
   -- The nibbles d in the place of p's, but p's sum.
   accepted-exactly : (d : List ℕ) → length d ≡ 2 * size k → All (λ b. b < 16) d → Accepted (d ++ (sum p ∷ [])) ↔ (sum p ≡ sum (pack d))
-  unfolding dataRows
+  unfolding dataRows halfFrom
   accepted-exactly d long narrow = (
     (λ e. dump-passed k filed n d (sum p) long e .summed),
     (λ e. rw (dump-tested k filed n d (sum p) long, number, not-wide 0 d narrow, eq-eqb (sum p) (sum (pack d)) e, any)),

@@ -9,15 +9,18 @@ use native.Mathlib.Omega.{arith}
 use lib.ListN.{length, length-append}
 use lib.Seq.{append-snoc}
 use Rattle.answers.specs.Lists.{All}
-use Rattle.answers.specs.Table.{answerOf, Silent}
+use Rattle.answers.specs.Table.{answerOf}
 use Rattle.answers.proofs.Lists.{all-at}
 use Rattle.answers.proofs.Rows.{row-at-silent}
+use Rattle.answers.specs.promises.Decides.{Silent}
 use Rattle.frames.specs.Bytes.{framed}
 use Rattle.nibbles.specs.Nibbles.{nibbles, pack, sum}
 use Rattle.nibbles.proofs.Laws.{length-nibbles, pack-nibbles, pack-low, pack-high, low-changes-sum, high-changes-sum}
 use Rattle.nibbles.proofs.Laws.{Position, at-low, at-high, at-sum, position, no-tail}
 use Rattle.patch.specs.Patch.{firstOut}
-use Rattle.patch.proofs.Runs.{fields-bytes, fields-apart}
+use Rattle.ranges.proofs.Runs.{run-bytes}
+use Rattle.fields.specs.Fields.{fields}
+use Rattle.patch.proofs.Runs.{fields-apart}
 use Rattle.messages.specs.Kinds.{aPatch, Dump, ofDump, Filed, sizeOf}
 use Rattle.messages.specs.Judge.{packedRows, judge}
 use Rattle.messages.specs.Layout.{messageOf}
@@ -66,7 +69,7 @@ module _ (k : Dump) (filed : Filed (ofDump k)) (patch : k .packed ≡ aPatch) (n
       ⊎-elim
       (λ (h : c ≡ b + 128). fields-apart p₁ b p₂ l₀ ok₀ (rw (← h) (q .fits)))
       (λ (h : b ≡ c + 128). fields-apart p₁ c p₂ (omega (arith, length-append p₁ (c ∷ p₂), length-append p₁ (b ∷ p₂))) (q .fits) (rw (← h) ok₀))
-      (high-changes-sum p₁ p₂ b y (all-at (λ b. b < 256) p₁ b p₂ (fields-bytes (p₁ ++ b ∷ p₂) l₀ ok₀)) narrow (λ h. ne (h ∙ sym e₂)) (rw e₀ at (q .same-sum)))
+      (high-changes-sum p₁ p₂ b y (all-at (λ b. b < 256) p₁ b p₂ (run-bytes fields 0 (p₁ ++ b ∷ p₂) ok₀)) narrow (λ h. ne (h ∙ sym e₂)) (rw e₀ at (q .same-sum)))
 
   -- The byte x of the nibbles and the sum replaced by another byte y: the dump is not accepted.
   pub replaced : (u : List ℕ) (x : ℕ) (v : List ℕ) (y : ℕ) → u ++ x ∷ v ≡ nibbles p ++ (sum p ∷ []) → (y ≡ x → ⊥)

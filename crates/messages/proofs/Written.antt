@@ -10,22 +10,23 @@ use lib.Dec.{eqb}
 use lib.ListN.{length, getD, length-append}
 use borrow.Author.Tests.{eq-eqb, eqb-true, not-false, ltb-false}
 use Rattle.answers.specs.Lists.{All}
-use Rattle.answers.specs.Table.{done, Silent}
+use Rattle.answers.specs.Table.{done}
 use Rattle.answers.proofs.Lists.{all-append, all-weaken}
 use Rattle.answers.proofs.Rows.{first-passed, row-silent, row-equal, row-at-silent}
+use Rattle.answers.specs.promises.Decides.{Silent}
 use Rattle.frames.specs.Bytes.{framed}
 use Rattle.nibbles.specs.Nibbles.{nibbles, sum}
 use Rattle.nibbles.proofs.Laws.{nibbles-narrow, sum-below}
-use Rattle.fields.specs.Fields.{placeOf}
-use Rattle.patch.specs.Patch.{firstOut}
+use Rattle.ranges.specs.Ranges.{Table}
+use Rattle.ranges.proofs.Runs.{one-in, run-bytes}
+use Rattle.fields.specs.Fields.{fields, placeOf}
 use Rattle.fields.proofs.Rules.{found-place, parameter-number}
-use Rattle.patch.proofs.Runs.{one-in, fields-bytes}
 use Rattle.fields.proofs.Buses.{source-below, destination-below}
 use Rattle.edits.specs.Edits.{extended, editRows, busRows}
 use Rattle.edits.proofs.Tests.{rows-at, rows-nowhere, value-small, bus-number, bus-amount, bus-bytes}
-use Rattle.messages.specs.Kinds.{Behind, numberTo, always, Packed, aPatch, anyBytes, Operands, anEdit, aBusEdit, Short}
-use Rattle.messages.specs.Kinds.{Kind, ofDump, ofShort, unknown, countOf, sizeOf, opcodeOf, Filed}
-use Rattle.messages.specs.Judge.{misnumbered, numberIn, packedRows, operandRows, bytesFrom, judge}
+use Rattle.messages.specs.Kinds.{Behind, numberTo, always, Operands, anEdit, aBusEdit, Short}
+use Rattle.messages.specs.Kinds.{Kind, ofDump, ofShort, unknown, countOf, shapeOf, sizeOf, opcodeOf, Filed}
+use Rattle.messages.specs.Judge.{misnumbered, numberIn, outBy, operandRows, bytesFrom, judge}
 use Rattle.messages.specs.Layout.{messageOf, dump, behindFor, message, recordFor, Numbered, Given, AllBytes, BytesIn, givenRows}
 use Rattle.messages.proofs.Filed.{every-kind, filed-sized}
 use Rattle.messages.proofs.Content.{bytes-at, framed-bytes}
@@ -69,9 +70,9 @@ bus-data : (b s a d : ℕ) → Silent (busRows b s a d) → All (λ x. x < 0x80)
 bus-data b s a d q =
     let number = bus-number b s a d q in
     let seven = bus-amount b s a d q in
-    let in₀ = one-in (104 + 3 * b) s (extended a ∷ d ∷ []) (bus-bytes b s a d q) in
-    let in₁ = one-in (suc (104 + 3 * b)) (extended a) (d ∷ []) (in₀ .1) in
-    let in₂ = one-in (suc (suc (104 + 3 * b))) d [] (in₁ .1) in
+    let in₀ = one-in fields (104 + 3 * b) s (extended a ∷ d ∷ []) (bus-bytes b s a d q) in
+    let in₁ = one-in fields (suc (104 + 3 * b)) (extended a) (d ∷ []) (in₀ .1) in
+    let in₂ = one-in fields (suc (suc (104 + 3 * b))) d [] (in₁ .1) in
     let source = source-below b s number (in₀ .0) in
     let two : suc (suc (104 + 3 * b)) ≡ 106 + 3 * b = omega arith in
     let destination = destination-below b d number (rw two at (in₂ .0)) in
@@ -123,9 +124,9 @@ numbered (numberTo greatest) n = refl
 numbered (always byte) n = refl
 
 -- The packed bytes that a writer takes are bytes.
-packed-bytes : (q : Packed) (p : List ℕ) → length p ≡ sizeOf q → AllBytes q p → Silent (packedRows q p) → All (λ b. b < 256) p
-packed-bytes aPatch p l u a = fields-bytes p l (row-at-silent 11 (firstOut p) (a .0))
-packed-bytes (anyBytes count) p l bytes a = bytes
+packed-bytes : (t : Option Table) (p : List ℕ) → AllBytes t p → outBy t p ≡ none → All (λ b. b < 256) p
+packed-bytes none p bytes e = bytes
+packed-bytes (some t) p u e = run-bytes t 0 p e
 
 -- A message of data bytes between F0H and F7H that is accepted with its record.
 pub record Sound (k : Kind) (b p : List ℕ) : Type 0 where
@@ -141,7 +142,8 @@ sound (ofDump k) b p f g u a =
     let n = behindFor (k .behind) b in
     let l = row-equal 7 (length p) (sizeOf (k .packed)) (a .0) in
     let number = row-silent 8 (misnumbered (k .behind) n) (a .1 .0) in
-    let bytes = packed-bytes (k .packed) p l u (a .1 .1) in
+    let table = shapeOf (k .packed) .table in
+    let bytes = packed-bytes table p u (row-at-silent 11 (outBy table p) (a .1 .1 .0)) in
     let small = seven-bits (ofDump k) f in
     record {
       content = dumpContent (k .opcode) n p;

@@ -1,15 +1,17 @@
 -- Document 01's table for a complete message without its real-time bytes: what it comes to.
 use mathlib.Core.Bool.{Bool, not}
 use mathlib.Core.List.{List, [], _∷_, _++_}
+use mathlib.Core.Option.{Option, none, some}
 use Prim.Native.Nat.{ℕ, zero, suc, _+_, _*_}
 use lib.Dec.{eqb, ltb}
 use lib.ListN.{length, take, drop, getD}
 use Rattle.answers.specs.Table.{Row, row, rowAt, Verdict, done, first}
 use Rattle.nibbles.specs.Nibbles.{pack, sum, firstWide}
-use Rattle.patch.specs.Patch.{fieldRows}
+use Rattle.ranges.specs.Ranges.{Table, outFrom}
+use Rattle.patch.specs.Patch.{halfFrom}
 use Rattle.edits.specs.Edits.{editRows, busRows}
-use Rattle.messages.specs.Kinds.{Behind, numberTo, always, Packed, aPatch, anyBytes, Dump, Operands, anEdit, aBusEdit}
-use Rattle.messages.specs.Kinds.{Kind, ofDump, ofShort, unknown, kindOf, countOf, sizeOf, lengthOf, isUnknown}
+use Rattle.messages.specs.Kinds.{Behind, numberTo, always, Packed, Dump, Operands, anEdit, aBusEdit}
+use Rattle.messages.specs.Kinds.{Kind, ofDump, ofShort, unknown, kindOf, countOf, shapeOf, sizeOf, lengthOf, isUnknown}
 
 -- The byte at place i of a message, F0H at 0.
 abbrev pub byteAt : List ℕ → ℕ → ℕ
@@ -39,10 +41,14 @@ abbrev pub numberIn : Behind → ℕ → List ℕ
 numberIn (numberTo greatest) n = n ∷ []
 numberIn (always byte) n = []
 
--- The tests of a dump's packed bytes: 11 and 12 of a patch.
+-- The lowest place out of range, where the bytes have a table.
+abbrev pub outBy : Option Table → List ℕ → Option ℕ
+outBy none p = none
+outBy (some t) p = outFrom t 0 p
+
+-- The tests of a dump's packed bytes: 11 by their table, 12 by their buses.
 abbrev pub packedRows : Packed → List ℕ → List Row
-packedRows aPatch p = fieldRows p
-packedRows (anyBytes count) p = []
+packedRows q p = rowAt 11 (outBy (shapeOf q .table) p) ∷ rowAt 12 (halfFrom (shapeOf q .buses) 0 p) ∷ []
 
 -- The tests of a dump's data bytes d, of the sum s behind them, and of what they pack to.
 abbrev pub sentRows : Packed → List ℕ → ℕ → List Row
@@ -97,7 +103,3 @@ messageRows m =
 -- What a message comes to: the first row of the table that holds, else its record.
 unfoldable pub judge : List ℕ → Verdict
 judge m = first (messageRows m) (recordOf (kindOf (byteAt m 3)) m)
-
--- The same of a message whose maker and device have passed, by its kind.
-unfoldable pub kindVerdict : Kind → List ℕ → Verdict
-kindVerdict k m = first (kindTable k m) (recordOf k m)

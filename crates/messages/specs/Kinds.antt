@@ -2,9 +2,12 @@
 use mathlib.Core.Path.{_≡_}
 use mathlib.Core.Bool.{Bool, true, false, cond}
 use mathlib.Core.List.{List, [], _∷_}
+use mathlib.Core.Option.{Option, none, some}
 use Prim.Native.Nat.{ℕ, _+_, _*_, _≤_}
 use lib.Dec.{eqb}
-use Rattle.fields.specs.Fields.{size}
+use Rattle.ranges.specs.Ranges.{Table}
+use Rattle.fields.specs.Fields.{size, fields}
+use Rattle.patch.specs.Patch.{buses}
 pub use Rattle.messages.specs.declared.kinds.Behind.{Behind}
 pub use Rattle.messages.specs.declared.kinds.Behind.the-variants.{NumberTo as numberTo, Always as always}
 pub use Rattle.messages.specs.declared.kinds.Packed.{Packed}
@@ -20,10 +23,18 @@ pub use Rattle.messages.specs.declared.kinds.Kind.the-variants.{Dump as 
 abbrev pub master : ℕ
 master = 172
 
--- How many packed bytes a dump has.
+-- What a dump packs: how many bytes, the table of their ranges if they have one, and how many buses they have.
+pub record Shape : Type 0 where
+  pub count : ℕ
+  pub table : Option Table
+  pub buses : ℕ
+
+abbrev pub shapeOf : Packed → Shape
+shapeOf aPatch = record { count = size; table = some fields; buses = buses }
+shapeOf (anyBytes count) = record { count = count; table = none; buses = 0 }
+
 abbrev pub sizeOf : Packed → ℕ
-sizeOf aPatch = size
-sizeOf (anyBytes count) = count
+sizeOf q = shapeOf q .count
 
 -- How many bytes a short message has behind its opcode.
 abbrev pub countOf : Operands → ℕ

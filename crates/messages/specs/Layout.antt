@@ -2,14 +2,16 @@
 use mathlib.Core.Path.{_≡_}
 use mathlib.Core.Bool.{not}
 use mathlib.Core.List.{List, [], _∷_, _++_}
+use mathlib.Core.Option.{Option, none, some}
 use Prim.Native.Nat.{ℕ, _<_}
 use lib.Dec.{eqb}
 use lib.ListN.{length, getD}
 use Rattle.answers.specs.Table.{Row, row, Verdict, done}
+use Rattle.ranges.specs.Ranges.{Table}
 use Rattle.frames.specs.Bytes.{framed}
 use Rattle.nibbles.specs.Nibbles.{nibbles, sum}
 use Rattle.answers.specs.Lists.{All}
-use Rattle.messages.specs.Kinds.{Behind, numberTo, always, Packed, aPatch, anyBytes, Dump, Kind, ofDump, ofShort, unknown, opcodeOf, sizeOf}
+use Rattle.messages.specs.Kinds.{Behind, numberTo, always, Dump, Kind, ofDump, ofShort, unknown, opcodeOf, shapeOf, sizeOf}
 use Rattle.messages.specs.Judge.{misnumbered, packedRows, lentOperandRows}
 
 -- F0H 10H 06H, the opcode, its bytes, F7H.
@@ -45,13 +47,13 @@ Given (ofDump k) b p = Numbered (k .behind) b
 Given (ofShort k) b p = p ≡ []
 Given unknown b p = ⊥
 
--- Packed bytes of any value are bytes, and no test says so.
-abbrev pub AllBytes : Packed → List ℕ → Type 0
-AllBytes aPatch p = Unit {0}
-AllBytes (anyBytes count) p = All (λ b. b < 256) p
+-- Packed bytes without a table are bytes, and no test says so.
+abbrev pub AllBytes : Option Table → List ℕ → Type 0
+AllBytes none p = All (λ b. b < 256) p
+AllBytes (some t) p = Unit {0}
 
 abbrev pub BytesIn : Kind → List ℕ → Type 0
-BytesIn (ofDump k) p = AllBytes (k .packed) p
+BytesIn (ofDump k) p = AllBytes (shapeOf (k .packed) .table) p
 BytesIn (ofShort k) p = Unit {0}
 BytesIn unknown p = Unit {0}
 

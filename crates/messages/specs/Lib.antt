@@ -1,5 +1,4 @@
 pub mod Kinds
 pub mod Judge
 pub mod Layout
-pub mod OneNibble
-pub mod code
+pub mod promises

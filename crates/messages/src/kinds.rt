@@ -135,25 +135,17 @@ pub const EDIT_BUFFER: Dump = Dump {
 };
 
 // The kind of an opcode.
-pub fn kind_of(opcode: usize) -> Kind
+pub fn kind_of(opcode: u8) -> Kind
     ensures { λ r. ⌜ r ≡ kindOf opcode ⌝ }
 {
-    if opcode == SinglePatch::OPCODE as usize {
-        return Kind::Dump(SINGLE_PATCH);
+    match opcode {
+        SinglePatch::OPCODE => Kind::Dump(SINGLE_PATCH),
+        MasterParameters::OPCODE => Kind::Dump(MASTER_PARAMETERS),
+        RemoteEdit::OPCODE => Kind::Short(REMOTE_EDIT),
+        BusEdit::OPCODE => Kind::Short(BUS_EDIT),
+        EditBuffer::OPCODE => Kind::Dump(EDIT_BUFFER),
+        _ => Kind::Unknown,
     }
-    if opcode == MasterParameters::OPCODE as usize {
-        return Kind::Dump(MASTER_PARAMETERS);
-    }
-    if opcode == RemoteEdit::OPCODE as usize {
-        return Kind::Short(REMOTE_EDIT);
-    }
-    if opcode == BusEdit::OPCODE as usize {
-        return Kind::Short(BUS_EDIT);
-    }
-    if opcode == EditBuffer::OPCODE as usize {
-        return Kind::Dump(EDIT_BUFFER);
-    }
-    Kind::Unknown
 }
 
 // How many packed bytes a dump has.

@@ -1,5 +1,2 @@
-// The kinds of message that the desk files, and what a complete message comes to.
-pub mod dumps;
-pub mod judging;
+// The kinds of message that the desk files.
 pub mod kinds;
-pub mod shorts;

@@ -10,15 +10,18 @@ use lib.ListN.{length, getD, take, drop, length-map, length-append, length-drop,
 use lib.Seq.{length-take-le, take-at, getD-append-add, getD-drop}
 use borrow.Author.Tests.{eq-eqb, lt-ltb, le-ltb, ltb-true, ltb-false}
 use Rattle.answers.specs.declared.Outcome.{Outcome}
-use Rattle.answers.specs.Table.{done, first, outcome, Silent}
+use Rattle.answers.specs.Table.{done, first, outcome}
 use Rattle.answers.specs.Effect.{Effect, changed}
 use Rattle.answers.specs.Lists.{All}
 use Rattle.answers.proofs.Rows.{first-passed, row-silent, row-equal}
 use Rattle.answers.proofs.Effects.{changed-silent, written-fits, written-done}
-use Rattle.patch.specs.Patch.{outFrom, firstOut, halfFrom, firstHalf, fieldRows, patchRows}
+use Rattle.answers.specs.promises.Decides.{Silent}
+use Rattle.patch.specs.Patch.{firstOut, halfFrom, firstHalf, fieldRows, patchRows}
 use Rattle.names.specs.Names.{nameRows, shown, stored, anyOutside, naming, showing}
 use Rattle.fields.proofs.Rules.{name-accepts, name-byte}
-use Rattle.patch.proofs.Runs.{one-in, one-more-in, none-out, out-join, out-split}
+use Rattle.ranges.specs.Ranges.{outFrom}
+use Rattle.ranges.proofs.Runs.{one-in, one-more-in, none-out, out-join, out-split}
+use Rattle.fields.specs.Fields.{fields}
 use Rattle.patch.proofs.Tests.{patch-refusals, fields-pass, patch-length, patch-silent}
 
 -- A name of eight allowed characters, set in 134 bytes, goes by the fields alone.
@@ -86,11 +89,11 @@ unfolding anyOutside
 no-text = refl
 
 -- The stored bytes of an allowed text are in range at the name's places.
-stored-in : (k : ℕ) (text : List ℕ) → k + length text ≤ 8 → anyOutside text ≡ false → outFrom k (map stored text) ≡ none
-stored-in k [] h e = none-out k
+stored-in : (k : ℕ) (text : List ℕ) → k + length text ≤ 8 → anyOutside text ≡ false → outFrom fields k (map stored text) ≡ none
+stored-in k [] h e = none-out fields k
 stored-in k (t ∷ ts) h e =
     let a = allowed t ts e in
-    one-more-in k (stored t) (map stored ts) (name-accepts k (stored t) (omega arith) (stored-small t (a .0) (a .1 .0)))
+    one-more-in fields k (stored t) (map stored ts) (name-accepts k (stored t) (omega arith) (stored-small t (a .0) (a .1 .0)))
     (stored-in (suc k) ts (omega arith) (a .1 .1))
 
 half-same : (n b : ℕ) (p q : List ℕ) → ((j : ℕ) → 104 ≤ j → getD p j 0 ≡ getD q j 0) → halfFrom n b p ≡ halfFrom n b q
@@ -117,10 +120,10 @@ named-accepted p text lp lt a e f =
     let name = map stored text in
     let ln : length name ≡ 8 = length-map text stored ∙ lt in
     let lk : length (take 8 p) ≡ 8 = length-take-le 8 p (omega arith) in
-    let whole : outFrom 0 (take 8 p ++ drop 8 p) ≡ none = rw (take-append-drop 8 p) e in
-    let rest = out-split 0 8 (take 8 p) (drop 8 p) (omega arith) whole .1 in
+    let whole : outFrom fields 0 (take 8 p ++ drop 8 p) ≡ none = rw (take-append-drop 8 p) e in
+    let rest = out-split fields 0 8 (take 8 p) (drop 8 p) (omega arith) whole .1 in
     let buses = half-same 10 0 (name ++ drop 8 p) p (λ j h. behind name p j ln (omega arith)) in
-    (out-join 0 8 name (drop 8 p) (omega arith) (stored-in 0 text (omega arith) a) rest, buses ∙ f)
+    (out-join fields 0 8 name (drop 8 p) (omega arith) (stored-in 0 text (omega arith) a) rest, buses ∙ f)
 
 -- A name that is set is the name that is shown.
 pub set-shown : (p text : List ℕ) → length text ≡ 8 → anyOutside text ≡ false → map shown (take 8 (map stored text ++ drop 8 p)) ≡ text
@@ -135,17 +138,17 @@ set-shown p text l a = rw (take-at (map stored text) (drop 8 p) 8 (length-map te
         cc
 
 -- The name's bytes from place k on, in range: each is of 0..63.
-named-small : (k : ℕ) (bs : List ℕ) → k + length bs ≤ 8 → outFrom k bs ≡ none → All (λ b. b ≤ 63) bs
+named-small : (k : ℕ) (bs : List ℕ) → k + length bs ≤ 8 → outFrom fields k bs ≡ none → All (λ b. b ≤ 63) bs
 named-small k [] h e = tt
 named-small k (b ∷ bs) h e =
-    let c = one-in k b bs e in
+    let c = one-in fields k b bs e in
     (name-byte k b (omega arith) (c .0), named-small (suc k) bs (omega arith) (c .1))
 
 name-small : (p : List ℕ) → length p ≡ 134 → firstOut p ≡ none → All (λ b. b ≤ 63) (take 8 p)
 name-small p l e =
     let lk : length (take 8 p) ≡ 8 = length-take-le 8 p (omega arith) in
-    let whole : outFrom 0 (take 8 p ++ drop 8 p) ≡ none = rw (take-append-drop 8 p) e in
-    named-small 0 (take 8 p) (omega arith) (out-split 0 8 (take 8 p) (drop 8 p) (omega arith) whole .0)
+    let whole : outFrom fields 0 (take 8 p ++ drop 8 p) ≡ none = rw (take-append-drop 8 p) e in
+    named-small 0 (take 8 p) (omega arith) (out-split fields 0 8 (take 8 p) (drop 8 p) (omega arith) whole .0)
 
 -- A name that is shown is allowed to be set.
 pub shown-inside : (p : List ℕ) → length p ≡ 134 → firstOut p ≡ none → anyOutside (map shown (take 8 p)) ≡ false

@@ -11,6 +11,13 @@ ghost use Prim.Native.Nat.{_≤_};
 ghost use lib.ListN.{length, drop};
 ghost use Rattle.answers.specs.Effect.{Gives};
 ghost use Rattle.names.specs.Names.{shown, stored, anyOutside, naming, showing};
+ghost use Rattle.names.specs.code.Ways.{by};
+
+// Which way a name goes: a text to be stored in a patch, or a patch's bytes to be shown.
+enum Way {
+    Stored,
+    Shown,
+}
 
 // A stored byte as its character. A patch that passed its tests has bytes of 0..63 here.
 fn character(b: u8) -> u8
@@ -50,26 +57,24 @@ fn any_outside(text: &[u8]) -> bool
     false
 }
 
-// A text's stored bytes at the start of a patch. Its caller has tested both lengths.
-fn store(text: &[u8], p: &mut [u8])
-    requires { ⌜ length (now text) ≤ length (now p) ⌝ }
-    ensures { λ _. ⌜ now (p .exit) ≡ map stored (now (text .entry)) ++ drop (length (now (text .entry))) (now (p .entry)) ⌝ }
+// A byte of a name, by the way it goes.
+fn converted(way: Way, b: u8) -> u8
+    ensures { λ r. ⌜ r ≡ by way b ⌝ }
 {
-    let mut i: usize = 0;
-    while i < text.len() {
-        p[i] = stored_byte(text[i]);
-        i += 1;
+    match way {
+        Way::Stored => stored_byte(b),
+        Way::Shown => character(b),
     }
 }
 
-// A name's characters at the start of an output. Its caller has tested that there is room.
-fn write_shown(name: &[u8], out: &mut [u8])
+// A name at the start of an output, by the way it goes. Its callers have tested that there is room.
+fn put_name(way: Way, name: &[u8], out: &mut [u8])
     requires { ⌜ length (now name) ≤ length (now out) ⌝ }
-    ensures { λ _. ⌜ now (out .exit) ≡ map shown (now (name .entry)) ++ drop (length (now (name .entry))) (now (out .entry)) ⌝ }
+    ensures { λ _. ⌜ now (out .exit) ≡ map (by way) (now (name .entry)) ++ drop (length (now (name .entry))) (now (out .entry)) ⌝ }
 {
     let mut i: usize = 0;
     while i < name.len() {
-        out[i] = character(name[i]);
+        out[i] = converted(way, name[i]);
         i += 1;
     }
 }
@@ -92,7 +97,7 @@ pub fn set_name(p: &mut [u8], text: &[u8]) -> Outcome
     if before.answer != DONE {
         return before;
     }
-    store(text, p);
+    put_name(Way::Stored, text, p);
     answers::done(0)
 }
 
@@ -108,6 +113,6 @@ pub fn show_name(p: &[u8], out: &mut [u8]) -> Outcome
     if out.len() < NAME_SIZE {
         return answers::refused(NO_ROOM, 0);
     }
-    write_shown(&p[..NAME_SIZE], out);
+    put_name(Way::Shown, &p[..NAME_SIZE], out);
     answers::done(NAME_SIZE)
 }

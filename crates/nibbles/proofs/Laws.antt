@@ -16,8 +16,6 @@ use borrow.Author.Tests.{ltb-true, ltb-false, lt-ltb, le-ltb, eq-eqb, ne-eqb}
 use Rattle.answers.specs.Lists.{All}
 use Rattle.answers.specs.Table.{outcome}
 use Rattle.nibbles.specs.Nibbles.{nibbles, pack, total, sum, wideFrom, firstWide, packing, unpacking}
-use Rattle.nibbles.specs.code.Wide.{foundWide}
-use Rattle.nibbles.specs.declared.Wide.the-variants.{At, Nowhere}
 
 -- Nibbles and packing.
 
@@ -157,15 +155,6 @@ first-wide-exactly ns i = (at-first, λ f. finds 0 ns i f ∙ ap some (omega ari
         let (j, at, f) = found 0 ns i e in
         let same : i ≡ j = omega arith in
         rw same f
-
--- An answer of the code, `At i` or `Nowhere`, says what the definition says.
-pub found-at : (o : Option ℕ) (i : ℕ) → foundWide o ≡ At i → o ≡ some i
-found-at (some j) i e = cc
-found-at none i e = cc
-
-pub found-nowhere : (o : Option ℕ) → foundWide o ≡ Nowhere → o ≡ none
-found-nowhere (some j) e = cc
-found-nowhere none e = refl
 
 -- The sum.
 

@@ -1,2 +1,1 @@
 pub mod Nibbles
-pub mod code

@@ -3,6 +3,7 @@ use answers::NO_ROOM;
 use answers::Outcome;
 use answers::WIDE_DATA;
 use answers::WRONG_LENGTH;
+use ranges::Failed;
 ghost use mathlib.Core.Path.{_≡_};
 ghost use mathlib.Core.Bool.{true};
 ghost use mathlib.Core.List.{_++_};
@@ -10,14 +11,8 @@ ghost use mathlib.Core.Option.{none};
 ghost use Prim.Native.Nat.{_*_, _/_, _≤_};
 ghost use lib.ListN.{length, drop};
 ghost use Rattle.answers.specs.Effect.{Gives};
+ghost use Rattle.ranges.specs.code.Found.{foundAt};
 ghost use Rattle.nibbles.specs.Nibbles.{nibbles, pack, sum, firstWide, packing, unpacking};
-ghost use Rattle.nibbles.specs.code.Wide.{foundWide};
-
-// Where the first data byte above 15 stands.
-enum Wide {
-    At(usize),
-    Nowhere,
-}
 
 // The sum of packed bytes, modulo 128.
 pub fn checksum(packed: &[u8]) -> u8
@@ -52,20 +47,20 @@ fn none_wide(sent: &[u8]) -> bool
 }
 
 // The first data byte above 15.
-fn first_wide(sent: &[u8]) -> Wide
-    ensures { λ r. ⌜ r ≡ foundWide (firstWide (now (sent .entry))) ⌝ }
+fn first_wide(sent: &[u8]) -> Failed
+    ensures { λ r. ⌜ r ≡ foundAt (firstWide (now (sent .entry))) ⌝ }
 {
     if none_wide(sent) {
-        return Wide::Nowhere;
+        return Failed::Nowhere;
     }
     let mut i: usize = 0;
     while i < sent.len() {
         if 15 < sent[i] {
-            return Wide::At(i);
+            return Failed::At(i);
         }
         i += 1;
     }
-    Wide::Nowhere
+    Failed::Nowhere
 }
 
 // Each byte as its remainder by 16, then its quotient by 16. The caller has seen that the nibbles fit.
@@ -117,8 +112,8 @@ pub fn pack_into(sent: &[u8], out: &mut [u8]) -> Outcome
     }
     let w = first_wide(sent);
     match w {
-        Wide::At(i) => answers::refused(WIDE_DATA, i),
-        Wide::Nowhere => {
+        Failed::At(i) => answers::refused(WIDE_DATA, i),
+        Failed::Nowhere => {
             if out.len() < sent.len() / 2 {
                 return answers::refused(NO_ROOM, 0);
             }

@@ -1,37 +1,18 @@
--- A patch stays accepted where a byte that its place accepts is stored and each bus stays whole: place by place, and bus by bus.
--- And three bytes, those of a bus, are tested one after the other.
+-- A patch is accepted where each byte is in range and each bus whole, bus by bus.
 use mathlib.Core.Path.{_≡_, refl}
 use mathlib.Core.Bool.{Bool, true, false, cond}
-use mathlib.Core.List.{List, [], _∷_}
+use mathlib.Core.List.{List}
 use mathlib.Core.Option.{none, some}
 use Prim.Native.Nat.{ℕ, zero, suc, _+_, _*_, _≤_, _<_}
 use native.Mathlib.Omega.{arith}
-use native.Mathlib.Numerals.{add-one}
 use lib.Dec.{eqb}
-use lib.ListN.{length, getD, set}
+use lib.ListN.{length, getD}
 use borrow.Author.Tests.{eqb-true, eqb-false}
 use Rattle.answers.specs.Table.{outcome}
 use Rattle.answers.specs.Effect.{tested}
 use Rattle.answers.proofs.Rows.{tested-passed}
-use Rattle.fields.specs.Fields.{inRange}
-use Rattle.patch.specs.Patch.{outFrom, firstOut, halfUsed, halfFrom, patchRows}
+use Rattle.patch.specs.Patch.{firstOut, halfUsed, halfFrom, patchRows}
 use Rattle.patch.proofs.Tests.{patch-silent}
-use Rattle.patch.proofs.Runs.{one-in, one-more-in}
-
--- The lowest place out of range among three bytes.
-pub three : (k s a d : ℕ) → outFrom k (s ∷ a ∷ d ∷ [])
-    ≡ cond (inRange k s) (cond (inRange (k + 1) a) (cond (inRange (k + 2) d) none (some (k + 2))) (some (k + 1))) (some k)
-unfolding outFrom
-three k s a d = let two : k + 2 ≡ suc (suc k) = omega arith in rw (add-one k, two)
-
--- A byte that is accepted at its place is stored: still no place is out of range.
-pub out-set : (j k b : ℕ) (p : List ℕ) → outFrom j p ≡ none → inRange (j + k) b ≡ true → outFrom j (set p k b) ≡ none
-out-set j k b [] e h = e
-out-set j zero b (x ∷ p) e h = let same : j + 0 ≡ j = omega arith in one-more-in j b p (rw same at h) (one-in j x p e .1)
-out-set j (suc k) b (x ∷ p) e h =
-    let c = one-in j x p e in
-    let same : j + suc k ≡ suc j + k = omega arith in
-    one-more-in j x (set p k b) (c .0) (out-set (suc j) k b p (c .1) (rw same at h))
 
 -- Source and destination of bus c are both zero or both not.
 abbrev pub Whole : List ℕ → ℕ → Type 0

@@ -9,11 +9,13 @@ use lib.Dec.{ltb}
 use lib.ListN.{length, getD, drop}
 use borrow.Author.Count.{below-more}
 use borrow.Author.Tests.{ltb-true, ltb-false, le-leb}
-use Rattle.fields.specs.Fields.{inRange}
-use Rattle.patch.specs.Patch.{outFrom, firstOut, halfUsed, halfFrom, firstHalf}
+use Rattle.ranges.specs.Ranges.{outFrom}
+use Rattle.ranges.proofs.Steps.{byte-in, bytes-done}
+use Rattle.fields.specs.Fields.{fields, inRange}
+use Rattle.patch.specs.Patch.{firstOut, halfUsed, halfFrom, firstHalf}
 use Rattle.patch.specs.code.Passes.{InRange}
 use Rattle.fields.proofs.Widths.{leasts, widths, in-range-columns}
-use Rattle.patch.proofs.Steps.{byte-in, bytes-done, bus-whole, buses-done}
+use Rattle.patch.proofs.Steps.{bus-whole, buses-done}
 
 -- One byte more.
 pub in-range-more : (p : List ℕ) (i k : ℕ) → InRange i k p → inRange k (getD p k 0) ≡ true → InRange i (k + 1) p
@@ -32,10 +34,10 @@ in-range-join p i n m l s h g k a b = go (ltb k n) refl
     go true q = h k a (ltb-true k n q)
     go false q = let after = ltb-false k n q in g k (omega arith) b
 
-out-none : (p : List ℕ) (n k : ℕ) → k + n ≡ length p → InRange k (length p) p → outFrom k (drop k p) ≡ none
-out-none p zero k e h = bytes-done p k (omega arith)
+out-none : (p : List ℕ) (n k : ℕ) → k + n ≡ length p → InRange k (length p) p → outFrom fields k (drop k p) ≡ none
+out-none p zero k e h = bytes-done fields p k (omega arith)
 out-none p (suc n) k e h =
-    byte-in p k (omega arith) (h k (omega arith) (omega arith)) ∙ out-none p n (k + 1) (omega arith) (λ j l u. h j (omega arith) u)
+    byte-in fields p k (omega arith) (h k (omega arith) (omega arith)) ∙ out-none p n (k + 1) (omega arith) (λ j l u. h j (omega arith) u)
 
 -- Where every byte of a patch lies in its range, none is out of range.
 pub all-in : (p : List ℕ) → length p ≡ 134 → InRange 0 134 p → firstOut p ≡ none

@@ -1,4 +1,4 @@
--- The loops' searches, a turn at a time: each is a step of its definition's recursion.
+-- The search for a bus half used, a turn at a time: each is a step of its definition's recursion.
 use mathlib.Core.Path.{_≡_, _∙_}
 use mathlib.Core.Bool.{true, false}
 use mathlib.Core.List.{List}
@@ -6,10 +6,8 @@ use mathlib.Core.Option.{none, some}
 use Prim.Native.Nat.{ℕ, suc, _+_, _-_, _*_, _<_, _≤_}
 use native.Mathlib.Omega.{arith}
 use native.Mathlib.Numerals.{add-one}
-use lib.ListN.{length, getD, drop, drop-of-length-le}
-use lib.Seq.{drop-cons}
-use Rattle.fields.specs.Fields.{inRange}
-use Rattle.patch.specs.Patch.{outFrom, halfFrom, halfUsed}
+use lib.ListN.{getD}
+use Rattle.patch.specs.Patch.{halfFrom, halfUsed}
 
 one-more : (n k : ℕ) → k < n → n - k ≡ suc (n - (k + 1))
 one-more n k h = let e : n - k ≡ (n - (k + 1)) + 1 = omega arith in e ∙ add-one _
@@ -17,20 +15,6 @@ one-more n k h = let e : n - k ≡ (n - (k + 1)) + 1 = omega arith in e ∙ add-
 none-left : (n k : ℕ) → n ≤ k → n - k ≡ 0
 none-left n k h = omega arith
 
--- The bytes of a patch, searched for one out of range.
-pub byte-in : (p : List ℕ) (k : ℕ) → k < length p → inRange k (getD p k 0) ≡ true → outFrom k (drop k p) ≡ outFrom (k + 1) (drop (k + 1) p)
-unfolding outFrom
-byte-in p k h e = rw (drop-cons p k 0 h) (simp (e, add-one))
-
-pub byte-out : (p : List ℕ) (k : ℕ) → k < length p → inRange k (getD p k 0) ≡ false → outFrom k (drop k p) ≡ some k
-unfolding outFrom
-byte-out p k h e = rw (drop-cons p k 0 h) (simp e)
-
-pub bytes-done : (p : List ℕ) (k : ℕ) → length p ≤ k → outFrom k (drop k p) ≡ none
-unfolding outFrom
-bytes-done p k h = rw (drop-of-length-le p h)
-
--- The buses, searched for one half used.
 pub bus-whole : (p : List ℕ) (b : ℕ) → b < 10 → halfUsed (getD p (104 + 3 * b) 0) (getD p (106 + 3 * b) 0) ≡ false
     → halfFrom (10 - b) b p ≡ halfFrom (10 - (b + 1)) (b + 1) p
 unfolding halfFrom

@@ -1,27 +1,16 @@
 -- The tests of a patch as rows of a table of answers: what the searches found, and what rows that say nothing tell of the patch.
-use mathlib.Core.Path.{_≡_, refl, ap, _∙_}
+use mathlib.Core.Path.{_≡_, ap, _∙_}
 use mathlib.Core.List.{List, [], _∷_}
 use mathlib.Core.Option.{Option, none, some}
 use Prim.Native.Nat.{ℕ}
 use native.Mathlib.Omega.{arith}
 use lib.ListN.{length}
 use borrow.Author.Tests.{eq-eqb}
-use Rattle.answers.specs.Table.{rowAt, Silent}
+use Rattle.answers.specs.Table.{rowAt}
 use Rattle.answers.specs.Effect.{tested}
 use Rattle.answers.proofs.Rows.{Refusals, row-at-silent, row-equal}
-use Rattle.patch.specs.declared.Failed.the-variants.{At as failed-at, Nowhere}
-use Rattle.patch.specs.code.Passes.{foundAt}
+use Rattle.answers.specs.promises.Decides.{Silent}
 use Rattle.patch.specs.Patch.{firstOut, firstHalf, fieldRows, patchRows}
-
--- A search that found a place, or a bus, found the definition's.
-pub found-some : (o : Option ℕ) (k : ℕ) → failed-at k ≡ foundAt o → o ≡ some k
-found-some (some j) k e = cc
-found-some none k e = let z : _≡_ {A = ℕ} 0 1 = cc in absurd (omega arith)
-
--- One that found nothing: nor does the definition.
-pub found-none : (o : Option ℕ) → Nowhere ≡ foundAt o → o ≡ none
-found-none (some j) e = let z : _≡_ {A = ℕ} 0 1 = cc in absurd (omega arith)
-found-none none e = refl
 
 -- What a patch's fields are answered, by what the two searches found.
 pub fields-answer : (p : List ℕ) (out half : Option ℕ) → firstOut p ≡ out → firstHalf p ≡ half

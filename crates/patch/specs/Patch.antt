@@ -1,21 +1,17 @@
 -- The tests of a patch: the field ranges and the bus rule.
-use mathlib.Core.Bool.{Bool, cond, Bool·beq}
+use mathlib.Core.Bool.{Bool, cond, not, Bool·beq}
 use mathlib.Core.List.{List, [], _∷_}
 use mathlib.Core.Option.{Option, none, some}
-use mathlib.Core.Bool.{not}
 use Prim.Native.Nat.{ℕ, zero, suc, _+_, _*_}
 use lib.Dec.{eqb}
 use lib.ListN.{length, getD}
 use Rattle.answers.specs.Table.{Row, row, rowAt}
-use Rattle.fields.specs.Fields.{size, inRange}
+use Rattle.ranges.specs.Ranges.{outFrom}
+use Rattle.fields.specs.Fields.{size, fields}
 
--- The lowest place out of range among bytes the first of which stands at place k.
-unfoldable pub outFrom : ℕ → List ℕ → Option ℕ
-outFrom k [] = none
-outFrom k (b ∷ p) = cond (inRange k b) (outFrom (suc k) p) (some k)
-
+-- The lowest place out of range.
 abbrev pub firstOut : List ℕ → Option ℕ
-firstOut = outFrom 0
+firstOut p = outFrom fields 0 p
 
 -- A bus has source and destination both zero or both not: half used otherwise.
 unfoldable pub halfUsed : ℕ → ℕ → Bool
@@ -27,8 +23,11 @@ halfFrom zero b p = none
 halfFrom (suc n) b p =
     cond (halfUsed (getD p (104 + 3 * b) 0) (getD p (106 + 3 * b) 0)) (some b) (halfFrom n (suc b) p)
 
+abbrev pub buses : ℕ
+buses = 10
+
 abbrev pub firstHalf : List ℕ → Option ℕ
-firstHalf = halfFrom 10 0
+firstHalf p = halfFrom buses 0 p
 
 -- The two tests that a patch of 134 bytes has to pass: 11, then 12.
 abbrev pub fieldRows : List ℕ → List Row

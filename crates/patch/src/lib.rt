@@ -11,23 +11,19 @@ use fields::PLACES;
 use fields::SOURCE_AT;
 use fields::columns::LEAST;
 use fields::columns::WIDTH;
+use ranges::Failed;
 ghost use mathlib.Core.Path.{_≡_};
 ghost use mathlib.Core.Bool.{true};
 ghost use mathlib.Core.Option.{none};
 ghost use lib.ListN.{length};
 ghost use Rattle.answers.specs.Effect.{tested};
+ghost use Rattle.ranges.specs.code.Found.{foundAt};
 ghost use Rattle.fields.specs.Fields.{size};
 ghost use Rattle.patch.specs.Patch.{firstOut, firstHalf, halfUsed, fieldRows, patchRows};
-ghost use Rattle.patch.specs.code.Passes.{InRange, foundAt};
+ghost use Rattle.patch.specs.code.Passes.{InRange};
 
 // How many bytes a patch has.
 pub const SIZE: usize = PLACES;
-
-// The lowest place, or bus, at which a test fails.
-enum Failed {
-    At(usize),
-    Nowhere,
-}
 
 // One of source and destination is zero and the other not.
 pub fn half_used(source: u8, destination: u8) -> bool

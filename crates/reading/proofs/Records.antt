@@ -14,8 +14,8 @@ use Rattle.nibbles.specs.Nibbles.{pack, packing}
 use Rattle.nibbles.proofs.Laws.{length-pack, packing-done}
 use Rattle.messages.specs.Kinds.{kindOf, packedSize}
 use Rattle.messages.specs.Judge.{judge}
-use Rattle.messages.specs.code.Judged.{judged}
-use Rattle.messages.specs.declared.judging.Judged.{Judged}
+use Rattle.judging.specs.code.Judged.{judged}
+use Rattle.judging.specs.declared.Judged.{Judged}
 use Rattle.messages.proofs.Accepted.{Accepted, accepted}
 use Rattle.reading.specs.code.Told.{readingAs, recorded}
 use Rattle.reading.specs.declared.recording.Reading.{Reading}
@@ -41,10 +41,6 @@ module _ (c : List ℕ) (j : Judged) (q : j ≡ judged (judge (framed c))) where
   module _ (its : Accepted c) where
     judged-its : j ≡ judged (done (its .opcode) (its .bytes) (packed c its))
     judged-its = q ∙ rw (its .verdict)
-
-    -- The size that the opcode has is that of the record.
-    pub size-its : packedSize (kindOf (j .outcome .detail)) ≡ its .size
-    size-its = ap (λ (x : Judged). packedSize (kindOf (x .outcome .detail))) judged-its ∙ its .sized
 
     sent-length : length (take (2 * its .size) (drop 4 c)) ≡ 2 * its .size
     sent-length = by-size (its .size) (its .fits)

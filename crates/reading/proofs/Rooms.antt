@@ -9,7 +9,7 @@ use borrow.Rule.Slice.PartMut.{putMid}
 use Rattle.answers.proofs.Lists.{to-end, then-part}
 use Rattle.frames.specs.Bytes.{body}
 use Rattle.frames.specs.Stream.{Report, messageAt}
-use Rattle.frames.specs.Scan.{State, outside, inside, scan}
+use Rattle.frames.specs.code.Scan.{State, outside, inside, scan}
 use Rattle.messages.specs.Judge.{judge}
 use Rattle.reading.specs.code.Rooms.{numbersOf, width, flat, fitting, Holds, endOf, most, made, Makes}
 use Rattle.reading.specs.code.Told.{reportOf}

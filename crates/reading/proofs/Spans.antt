@@ -14,8 +14,8 @@ use Rattle.frames.specs.declared.Span.{Span}
 use Rattle.frames.proofs.Bytes.{body-within, body-take}
 use Rattle.frames.proofs.Found.{message-refused, message-complete}
 use Rattle.messages.specs.Judge.{judge}
-use Rattle.messages.specs.code.Judged.{judged}
-use Rattle.messages.specs.declared.judging.Judged.{Judged}
+use Rattle.judging.specs.code.Judged.{judged}
+use Rattle.judging.specs.declared.Judged.{Judged}
 use Rattle.reading.specs.code.Told.{reportAs, reportOf, readingAs, recorded, readMessage}
 use Rattle.reading.specs.declared.recording.Reading.{Reading}
 

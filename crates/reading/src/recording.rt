@@ -7,7 +7,7 @@ use answers::NO_MESSAGE;
 use answers::NO_ROOM;
 use answers::Outcome;
 use frames::Span;
-use messages::judging::judge_content;
+use judging::judge_content;
 use messages::kinds::kind_of;
 use messages::kinds::packed_size;
 ghost use mathlib.Core.Path.{_≡_};
@@ -53,7 +53,7 @@ fn read_content(content: &[u8], start: usize, end: usize, buffer: &mut [u8]) -> 
     if outcome.answer != DONE {
         return bare(start, end, outcome);
     }
-    let size = packed_size(kind_of(outcome.detail));
+    let size = packed_size(kind_of(content[2]));
     if buffer.len() < size {
         return bare(start, end, answers::refused(NO_ROOM, 0));
     }

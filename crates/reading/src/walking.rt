@@ -3,8 +3,8 @@ use answers::DONE;
 use answers::NO_MESSAGE;
 use answers::Outcome;
 use frames::Span;
-use messages::judging::Judged;
-use messages::judging::judge_content;
+use judging::Judged;
+use judging::judge_content;
 use messages::kinds::LONGEST;
 ghost use mathlib.Core.Path.{_≡_};
 ghost use Prim.Native.Nat.{_+_, _^_, _<_};
@@ -13,7 +13,7 @@ ghost use Rattle.frames.specs.Bytes.{framed, withoutRealTime, realTimeIn};
 ghost use Rattle.frames.specs.code.Extent.{spanOf};
 ghost use Rattle.frames.specs.Stream.{messageAt};
 ghost use Rattle.messages.specs.Judge.{judge};
-ghost use Rattle.messages.specs.code.Judged.{judged};
+ghost use Rattle.judging.specs.code.Judged.{judged};
 ghost use Rattle.reading.specs.code.Told.{Front, reportOf, walked};
 
 // Where a message starts and ends, and its outcome.

@@ -4,7 +4,7 @@ use lib.ListN.{length}
 use borrow.Author.Tests.{leb-true}
 use Rattle.text.specs.Text.{ascii, digitsOf}
 use Rattle.fields.specs.Fields.{fields, parameterOf}
-use Rattle.fields.specs.Values.{valueOf}
+use Rattle.ranges.specs.Values.{valueOf}
 use Rattle.table_main.specs.Table.{tableRow, tableRows, tableText, TableFits}
 
 pub table-fits : TableFits

@@ -5,7 +5,7 @@ use Prim.Native.Nat.{ℕ, zero, suc, _≤_}
 use lib.ListN.{length}
 use Rattle.text.specs.Text.{ascii, followed}
 use Rattle.fields.specs.Fields.{size, leastAt, greatestAt, parameterOf}
-use Rattle.fields.specs.Values.{Value, plus, minus, valueOf}
+use Rattle.ranges.specs.Values.{Value, plus, minus, valueOf}
 
 -- A parameter, or a dash where there is none, and a space behind it.
 abbrev pub parameterText : Option ℕ → List ℕ

@@ -6,7 +6,7 @@ use libc::STDOUT_FILENO;
 ghost use Rattle.io.specs.Counts.{Counts};
 ghost use Rattle.text.specs.Text.{Puts};
 ghost use Rattle.fields.specs.Fields.{parameterOf};
-ghost use Rattle.fields.specs.Values.{valueOf};
+ghost use Rattle.ranges.specs.Values.{valueOf};
 ghost use Rattle.table_main.specs.Table.{parameterText, valueText, tableRow, tableText};
 
 // Bytes of a patch.

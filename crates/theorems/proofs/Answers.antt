@@ -14,12 +14,13 @@ use lib.Seq.{drop-at, drop-append-seam, drop-drop}
 use borrow.Author.Tests.{eqb-true, leb-true, leb-false, le-ltb, lt-ltb}
 use Rattle.answers.specs.declared.Outcome.{Outcome}
 use Rattle.answers.specs.Lists.{All}
-use Rattle.answers.specs.Table.{Row, row, says, Verdict, done, refused, first, outcome, outcomeOf, four, Silent}
-use Rattle.answers.specs.Effect.{Effect, tested, changed, written, Keeps, Decides}
+use Rattle.answers.specs.Table.{Row, row, says, Verdict, done, refused, first, outcome, outcomeOf, four}
+use Rattle.answers.specs.Effect.{Effect, tested, changed, written}
 use Rattle.answers.proofs.Lists.{all-append, all-weaken}
 use Rattle.answers.proofs.Rows.{Refusals, numberOf, Heard, nothing, something, heard, first-append, first-passed}
 use Rattle.answers.proofs.Rows.{passed-over, done-passed, given-first, first-given, row-equal, first-number, tested-passed, decides}
 use Rattle.answers.proofs.Effects.{changed-decides, changed-keeps, written-decides, written-keeps}
+use Rattle.answers.specs.promises.Decides.{Decides, Keeps, Silent}
 use Rattle.frames.specs.Bytes.{body}
 use Rattle.frames.specs.Stream.{Report, Reading, packedIn, readInto, readReport, messageAt, firstFrom, walk, read, reports}
 use Rattle.frames.proofs.Walk.{reread}

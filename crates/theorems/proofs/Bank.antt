@@ -14,13 +14,14 @@ use lib.ListN.{length, take, drop}
 use lib.Seq.{take-append-seam, drop-drop}
 use borrow.Author.Tests.{eq-eqb, eqb-true, le-ltb, lt-ltb, ltb-false, le-leb, lt-leb}
 use Rattle.answers.specs.Lists.{All}
-use Rattle.answers.specs.Table.{Verdict, done, refused, first, Silent}
+use Rattle.answers.specs.Table.{Verdict, done, refused, first}
 use Rattle.answers.specs.Effect.{toldAs, written}
 use Rattle.answers.proofs.Lists.{all-weaken}
 use Rattle.answers.proofs.Rows.{done-passed}
+use Rattle.answers.specs.promises.Decides.{Silent}
 use Rattle.frames.specs.Stream.{Report, report, reports}
-use Rattle.frames.specs.Scan.{outside, inside, scan}
-use Rattle.frames.specs.Order.{InOrder}
+use Rattle.frames.specs.code.Scan.{outside, inside, scan}
+use Rattle.frames.specs.promises.Order.{InOrder}
 use Rattle.frames.proofs.Scan.{ahead, scan-exclusive, scan-outside}
 use Rattle.frames.proofs.Walk.{reports-scan, reports-order}
 use Rattle.frames.proofs.Order.{order-from}

@@ -12,7 +12,7 @@ use Rattle.answers.specs.Table.{Verdict}
 use Rattle.answers.proofs.Lists.{all-weaken}
 use Rattle.frames.specs.Bytes.{framed}
 use Rattle.frames.specs.Stream.{Report, report, reports}
-use Rattle.frames.specs.Scan.{outside, inside, scan}
+use Rattle.frames.specs.code.Scan.{outside, inside, scan}
 use Rattle.frames.proofs.Scan.{ahead, scan-exclusive}
 use Rattle.frames.proofs.Walk.{reports-scan, scan-order}
 use Rattle.frames.proofs.Order.{order-from, ahead-before}

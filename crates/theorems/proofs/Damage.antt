@@ -21,9 +21,10 @@ use Rattle.frames.proofs.Scan.{DataByte}
 use Rattle.frames.proofs.OneByte.{Only, closed, one-byte, scan-close}
 use Rattle.nibbles.specs.Nibbles.{nibbles, sum}
 use Rattle.nibbles.proofs.Laws.{length-nibbles, nibbles-narrow, sum-below}
+use Rattle.fields.specs.Fields.{fields}
 use Rattle.patch.specs.Patch.{firstOut, firstHalf}
 use Rattle.patch.proofs.Tests.{fields-pass, fields-silent}
-use Rattle.patch.proofs.Runs.{fields-bytes}
+use Rattle.ranges.proofs.Runs.{run-bytes}
 use Rattle.messages.specs.declared.kinds.Dump.{Dump}
 use Rattle.messages.specs.declared.kinds.Kind.the-variants.{Dump as ofDump}
 use Rattle.messages.specs.declared.kinds.Packed.the-variants.{Patch as aPatch}
@@ -96,7 +97,7 @@ module _ (k : Dump) (filed : Filed (ofDump k)) (patch : k .packed ≡ aPatch) (n
   sent-length = omega (arith, length-append (nibbles p) (sum p ∷ []), length-nibbles p)
 
   narrow : All (λ b. b < 16) (nibbles p)
-  narrow = nibbles-narrow p (fields-bytes p l out)
+  narrow = nibbles-narrow p (run-bytes fields 0 p out)
 
   sent-data : All DataByte sent
   sent-data =
@@ -156,7 +157,7 @@ module _ (k : Dump) (filed : Filed (ofDump k)) (patch : k .packed ≡ aPatch) (n
 
   accepted : judge (framed (head ++ sent)) ≡ dumpRecord k n p
   unfolding dump
-  accepted = dump-accepted k filed n p number (l ∙ sym (ap sizeOf patch)) (fields-bytes p l out) (rw patch (fields-silent p out half))
+  accepted = dump-accepted k filed n p number (l ∙ sym (ap sizeOf patch)) (run-bytes fields 0 p out) (rw patch (fields-silent p out half))
 
   -- The undamaged dump has one report.
   intact : Laid before (dump (k .opcode) n p) behind (report (length before) (length before + length (dump (k .opcode) n p)) (dumpRecord k n p) ∷ [])

@@ -13,7 +13,7 @@ use Rattle.answers.specs.Lists.{All}
 use Rattle.answers.specs.Table.{Verdict, done, refused, outcome, answerOf}
 use Rattle.answers.specs.Effect.{Effect}
 use Rattle.frames.specs.Stream.{Report, Reading, reading, readInto, walk, read, reports}
-use Rattle.frames.specs.Scan.{outside, scan}
+use Rattle.frames.specs.code.Scan.{outside, scan}
 use Rattle.frames.proofs.Scan.{move, scan-moved}
 use Rattle.frames.proofs.Walk.{reread}
 use Rattle.messages.specs.Judge.{judge}

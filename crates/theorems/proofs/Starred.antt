@@ -3,10 +3,11 @@ use mathlib.Core.Path.{refl}
 use lib.ListN.{drop}
 use Rattle.answers.specs.Lists.{All}
 use Rattle.nibbles.specs.Nibbles.{nibbles, total, sum}
-use Rattle.fields.specs.Fields.{fields, between, inRange, searchFrom, placeOf}
-use Rattle.patch.specs.Patch.{outFrom, halfUsed, halfFrom}
+use Rattle.fields.specs.Fields.{fields, searchFrom, placeOf}
+use Rattle.ranges.specs.Ranges.{between, inRow, outFrom}
+use Rattle.patch.specs.Patch.{halfUsed, halfFrom}
 use Rattle.names.specs.Names.{stored, anyOutside, naming}
-use Rattle.fields.specs.Values.{valueOf}
+use Rattle.ranges.specs.Values.{valueOf}
 use Rattle.edits.specs.Edits.{extended, storedFor, editRows, busRows, withBus, applying, applyingBus}
 use Rattle.messages.specs.Kinds.{kindOf}
 use Rattle.messages.specs.Judge.{judge}
@@ -15,7 +16,7 @@ use Rattle.writing.specs.Writing.{writing}
 use Rattle.theorems.specs.Examples.{Computes, starred, Starred}
 
 pub starred-hold : Starred
-unfolding nibbles total sum fields between inRange searchFrom placeOf outFrom halfUsed halfFrom stored anyOutside naming valueOf
+unfolding nibbles total sum fields between inRow searchFrom placeOf outFrom halfUsed halfFrom stored anyOutside naming valueOf
     extended storedFor editRows busRows withBus applying applyingBus kindOf judge dump writing
 starred-hold =
     let others : All Computes (drop 12 starred) = (refl, (refl, (refl, (refl, (refl, (refl, (refl, (refl, (refl, (refl, (refl, (refl, (refl, tt))))))))))))) in

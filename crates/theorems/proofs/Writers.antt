@@ -4,8 +4,9 @@ use mathlib.Core.List.{List}
 use Prim.Native.Nat.{ℕ, _≤_, _<_}
 use lib.ListN.{length}
 use Rattle.answers.specs.Lists.{All}
-use Rattle.answers.specs.Table.{Verdict, Silent}
+use Rattle.answers.specs.Table.{Verdict}
 use Rattle.answers.proofs.Effects.{written-done, written-fits}
+use Rattle.answers.specs.promises.Decides.{Silent}
 use Rattle.frames.specs.Bytes.{framed}
 use Rattle.messages.specs.declared.kinds.Kind.{Kind}
 use Rattle.messages.specs.Judge.{judge}

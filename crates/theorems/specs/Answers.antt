@@ -10,7 +10,8 @@ use lib.ListN.{length, take, drop, getD}
 use Rattle.answers.specs.declared.Outcome.{Outcome}
 use Rattle.answers.specs.Lists.{All}
 use Rattle.answers.specs.Table.{Row, row, Verdict, outcome, outcomeOf, four}
-use Rattle.answers.specs.Effect.{Effect, tested, Keeps, Decides}
+use Rattle.answers.specs.Effect.{Effect, tested}
+use Rattle.answers.specs.promises.Decides.{Decides, Keeps}
 use Rattle.frames.specs.Bytes.{body, withoutRealTime, framed}
 use Rattle.frames.specs.Stream.{packedIn, reports}
 use Rattle.nibbles.specs.Nibbles.{nibbles, pack, nibbleRows, packing, unpacking}

@@ -9,7 +9,7 @@ use Rattle.answers.specs.Table.{Verdict, refused, outcome}
 use Rattle.answers.specs.Effect.{Effect}
 use Rattle.fields.specs.Fields.{size}
 use Rattle.names.specs.Names.{naming}
-use Rattle.fields.specs.Values.{plus, minus, valueOf}
+use Rattle.ranges.specs.Values.{plus, minus, valueOf}
 use Rattle.edits.specs.Edits.{extended, applying, applyingBus}
 use Rattle.messages.specs.declared.kinds.Kind.{Kind}
 use Rattle.messages.specs.declared.kinds.Kind.the-variants.{Dump as ofDump, Short as ofShort}

@@ -14,7 +14,7 @@ use Rattle.frames.specs.Stream.{Report, report, Reading, reading, walk, reports
 use Rattle.fields.specs.Fields.{size}
 use Rattle.names.specs.Names.{naming, showing}
 use Rattle.edits.specs.Edits.{applying, applyingBus}
-use Rattle.edits.specs.Done.{EditDone, BusDone}
+use Rattle.edits.specs.promises.Done.{EditDone, BusDone}
 use Rattle.messages.specs.declared.kinds.Kind.{Kind}
 use Rattle.messages.specs.declared.kinds.Kind.the-variants.{Dump as ofDump}
 use Rattle.messages.specs.Kinds.{singlePatch, kinds, opcodeOf, Filed}

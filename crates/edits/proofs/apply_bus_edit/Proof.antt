@@ -5,9 +5,10 @@ use Prim.Native.Nat.{ℕ, _+_, _*_, _≤_}
 use native.Mathlib.Omega.{arith}
 use lib.ListN.{length, set, length-set}
 use borrow.Author.Needs.{needs}
-use Rattle.answers.specs.Table.{Row, done, Silent}
+use Rattle.answers.specs.Table.{Row, done}
 use Rattle.answers.proofs.Lists.{all-append}
 use Rattle.answers.proofs.Effects.{passed, gives-kept, gives-kept-behind, gives-changed}
+use Rattle.answers.specs.promises.Decides.{Silent}
 use Rattle.patch.specs.Patch.{patchRows}
 use Rattle.patch.proofs.Tests.{patch-refusals, patch-length}
 use Rattle.edits.specs.Edits.{busRows, withBus, applyingBus}

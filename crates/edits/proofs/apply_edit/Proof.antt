@@ -6,9 +6,10 @@ use Prim.Native.Nat.{ℕ, _<_}
 use native.Mathlib.Omega.{arith}
 use lib.ListN.{set}
 use borrow.Author.Needs.{needs}
-use Rattle.answers.specs.Table.{Row, done, Silent}
+use Rattle.answers.specs.Table.{Row, done}
 use Rattle.answers.proofs.Lists.{all-append}
 use Rattle.answers.proofs.Effects.{passed, gives-kept, gives-kept-behind, gives-changed}
+use Rattle.answers.specs.promises.Decides.{Silent}
 use Rattle.fields.specs.Fields.{placeOf}
 use Rattle.patch.specs.Patch.{patchRows}
 use Rattle.fields.proofs.Places.{found-there, found-nowhere}

@@ -2,6 +2,7 @@
 use mathlib.Core.Path.{sym, ap, _∙_}
 use borrow.Author.Needs.{needs}
 use borrow.Author.Tests.{lt-ltb, le-ltb, not-true, not-false}
+use Rattle.ranges.specs.Ranges.{inRow}
 use Rattle.fields.specs.Fields.{fields, inRange}
 use Rattle.edits.specs.Edits.{busRows}
 use Rattle.edits.proofs.test_bus_edit.Statement.{statement}
@@ -16,7 +17,7 @@ unfolding busRows
 returns-2 c = simp (le-ltb _ _ (c .before .before .if1 .left), lt-ltb _ _ (c .before .if2 .taken)) (c .refused2 .ensures)
 
 returns-3 : tie.Need-returns-3
-unfolding busRows fields inRange
+unfolding busRows fields inRow
 returns-3 c =
     let e = c .before .before .before in
     let amounts = e .before in
@@ -24,7 +25,7 @@ returns-3 c =
     simp (le-ltb _ _ (amounts .before .if1 .left), le-ltb _ _ (amounts .if2 .left), out) (c .refused3 .ensures)
 
 returns-4 : tie.Need-returns-4
-unfolding busRows fields inRange
+unfolding busRows fields inRow
 returns-4 c =
     let e = c .before .before .before in
     let amounts = e .before in

@@ -7,6 +7,7 @@ use borrow.Author.Needs.{needs}
 use borrow.Author.Tests.{not-true, not-false}
 use Rattle.answers.specs.Table.{rowAt}
 use Rattle.answers.specs.Effect.{tested}
+use Rattle.ranges.specs.Ranges.{inRow}
 use Rattle.fields.specs.Fields.{fields, inRange}
 use Rattle.patch.specs.Patch.{halfUsed}
 use Rattle.edits.specs.Edits.{byteRows}
@@ -16,15 +17,15 @@ use Rattle.edits.proofs.test_bytes.Tie as tie
 
 -- The bounds in code are those of bus 0 in the table: what each test of a range answered.
 source : (t : tie.After-lies-between) → inRange 104 (t .before .args .source) ≡ t .lies-between .result
-unfolding fields inRange
+unfolding fields inRow
 source t = sym (t .lies-between .ensures)
 
 amount : (t : tie.After-lies-between2) → inRange 105 (t .before .before .before .args .amount) ≡ t .lies-between2 .result
-unfolding fields inRange
+unfolding fields inRow
 amount t = sym (t .lies-between2 .ensures)
 
 destination : (t : tie.After-lies-between3) → inRange 106 (t .before .before .before .before .before .args .destination) ≡ t .lies-between3 .result
-unfolding fields inRange
+unfolding fields inRow
 destination t = sym (t .lies-between3 .ensures)
 
 source-in : (t : tie.Else1) → inRange 104 (t .before .before .args .source) ≡ true

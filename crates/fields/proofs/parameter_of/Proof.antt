@@ -20,4 +20,4 @@ returns-3 c = simp (lt-leb _ _ (c .before .before .if1 .left), ← c .before .en
 pub parameter-of-spec : {M : Type 1} → statement M
 parameter-of-spec =
     tie.close
-    (tie.spec (λ c. search needs) returns (λ c. search needs) (λ c. search needs) (λ c κs. search needs) returns-2 returns-3)
+    (tie.spec (λ c. search needs) returns (λ c κs. search needs) returns-2 returns-3)

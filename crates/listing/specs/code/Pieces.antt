@@ -6,7 +6,7 @@ use Prim.Native.Nat.{ℕ, _+_, _*_, _-_, _≤_, _<_}
 use lib.Dec.{leb}
 use lib.ListN.{length, take, drop}
 use Rattle.frames.specs.Stream.{Report}
-use Rattle.frames.specs.Scan.{outside, scan}
+use Rattle.frames.specs.code.Scan.{outside, scan}
 use Rattle.messages.specs.Judge.{judge}
 use Rattle.reading.specs.code.Rooms.{width, most as reportsMost}
 use Rattle.listing.specs.Listing.{lines, total, listingOf}

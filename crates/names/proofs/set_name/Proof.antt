@@ -72,8 +72,8 @@ returns-5 c =
     let t = last .before .before in
     let rows = fieldRows (patch t) in
     let silent = passed rows (t .test .result) (field-refusals (patch t)) (answered t) (last .if4 .left) in
-    let stored-now = rw (t .before .before .before .before .if2 .left) at (w .store .ensures) in
-    rw (tests-passed t) (gives-changed 0 (named t) (patch t) rows (c .done .result) (w .store .last .1 .0) silent (c .done .ensures) stored-now)
+    let stored-now = rw (t .before .before .before .before .if2 .left) at (w .put-name .ensures) in
+    rw (tests-passed t) (gives-changed 0 (named t) (patch t) rows (c .done .result) (w .put-name .last .1 .1 .0) silent (c .done .ensures) stored-now)
 
 pub set-name-spec : {M : Type 1} → statement M
 set-name-spec =

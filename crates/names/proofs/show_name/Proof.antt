@@ -6,8 +6,8 @@ use native.Mathlib.Omega.{arith}
 use lib.ListN.{length, take, length-map}
 use lib.Seq.{length-take-le}
 use borrow.Author.Needs.{needs}
-use Rattle.answers.specs.Table.{Silent}
 use Rattle.answers.proofs.Effects.{passed, gives-stopped, gives-short, gives-written}
+use Rattle.answers.specs.promises.Decides.{Silent}
 use Rattle.patch.specs.Patch.{patchRows}
 use Rattle.names.specs.Names.{shown, showing}
 use Rattle.patch.proofs.Tests.{patch-refusals, patch-length}
@@ -46,11 +46,11 @@ returns-2 c =
     let z = c .before .before .if1 .left in
     gives-short (patchRows (patch t)) (bytes t) (out t) 8 (c .refused .result) (size t z) (silent t z) (c .before .if2 .taken) (c .refused .ensures)
 
-slice-aggregate-write-shown : tie.Need-slice-aggregate-write-shown
-slice-aggregate-write-shown c = sym (eight (c .before .before .before .before) (c .before .before .if1 .left))
+slice-aggregate-put-name : tie.Need-slice-aggregate-put-name
+slice-aggregate-put-name c = sym (eight (c .before .before .before .before) (c .before .before .if1 .left))
 
-write-shown-requires : tie.Need-write-shown-requires
-write-shown-requires c κs = omega (arith, eight (c .before .before .before .before .before) (c .before .before .before .if1 .left))
+put-name-requires : tie.Need-put-name-requires
+put-name-requires c κs = omega (arith, eight (c .before .before .before .before .before) (c .before .before .before .if1 .left))
 
 returns-3 : tie.Need-returns-3
 unfolding showing
@@ -59,8 +59,8 @@ returns-3 c =
     let enough = w .before .before .before in
     let t = enough .before .before .before in
     let z = enough .before .if1 .left in
-    let written = rw (← (length-map (take 8 (patch t)) shown)) at (w .write-shown .ensures) in
-    let new = w .write-shown .last .1 .0 in
+    let written = rw (← (length-map (take 8 (patch t)) shown)) at (w .put-name .ensures) in
+    let new = w .put-name .last .1 .1 .0 in
     gives-written (patchRows (patch t)) (bytes t) (out t) new 8 (c .done .result) (size t z) (silent t z) (enough .if2 .left) (c .done .ensures) written
 
 pub show-name-spec : {M : Type 1} → statement M
@@ -71,8 +71,8 @@ show-name-spec =
     returns
     (λ c κs. search needs)
     returns-2
-    slice-aggregate-write-shown
-    write-shown-requires
+    slice-aggregate-put-name
+    put-name-requires
     (λ c κs. search needs)
     (λ c. search needs)
     returns-3)

@@ -7,7 +7,7 @@ use lib.ListN.{length, drop}
 use lib.Seq.{drop-cons}
 use borrow.Author.Needs.{needs}
 use Rattle.nibbles.specs.Nibbles.{wideFrom, firstWide}
-use Rattle.nibbles.specs.code.Wide.{foundWide}
+use Rattle.ranges.specs.code.Found.{foundAt}
 use Rattle.nibbles.proofs.Laws.{wide-here}
 use Rattle.nibbles.proofs.Passing.{wide-passed, wide-end}
 use Rattle.nibbles.proofs.first_wide.Statement.{statement}
@@ -23,7 +23,7 @@ loop-holds : tie.Need-loop-holds Inv-loop μ-loop
 loop-holds c = (omega arith, refl)
 
 returns : tie.Need-returns Inv-loop μ-loop
-returns c = sym (ap foundWide (c .before .none-wide .ensures (c .if1 .taken)))
+returns c = sym (ap foundAt (c .before .none-wide .ensures (c .if1 .taken)))
 
 returns-2 : tie.Need-returns-2 Inv-loop μ-loop
 returns-2 c =
@@ -31,7 +31,7 @@ returns-2 c =
     let at = c .before .before .before .loop in
     let i = at .i in
     let here : wideFrom i (drop i sent) ≡ some i = rw (drop-cons sent i 0 (c .before .before .loop-test .taken)) (wide-here i _ _ (omega arith)) in
-    ap foundWide (sym (at .inv .1 ∙ here))
+    ap foundAt (sym (at .inv .1 ∙ here))
 
 loop-again : tie.Need-loop-again Inv-loop μ-loop
 loop-again c =
@@ -43,7 +43,7 @@ returns-3 : tie.Need-returns-3 Inv-loop μ-loop
 returns-3 c =
     let sent = c .before .before .before .before .before .args .sent .now in
     let at = c .before .loop in
-    ap foundWide (sym (at .inv .1 ∙ wide-end sent (at .i) (c .loop-test .left)))
+    ap foundAt (sym (at .inv .1 ∙ wide-end sent (at .i) (c .loop-test .left)))
 
 pub first-wide-spec : {M : Type 1} → statement M
 first-wide-spec =

@@ -3,14 +3,15 @@ use native.Mathlib.Omega.{arith}
 use mathlib.Core.Path.{_≡_, refl, sym, _∙_}
 use mathlib.Core.Option.{none}
 use borrow.Author.Needs.{needs}
+use Rattle.ranges.proofs.Found.{found-some, found-none}
 use Rattle.nibbles.specs.Nibbles.{firstWide}
-use Rattle.nibbles.proofs.Laws.{found-at, found-nowhere, packing-odd, packing-wide, packing-short, packing-done}
+use Rattle.nibbles.proofs.Laws.{packing-odd, packing-wide, packing-short, packing-done}
 use Rattle.nibbles.proofs.pack_into.Statement.{statement}
 use Rattle.nibbles.proofs.pack_into.Tie as tie
 
 -- In the arm of `Nowhere` no byte is wide.
 nowhere : (c : tie.After-enum-told) → firstWide (c .before .before .before .before .before .before .args .sent .now) ≡ none
-nowhere c = found-nowhere _ (sym (c .before .before .first-wide .ensures) ∙ c .enum-told .given .1)
+nowhere c = found-none _ (sym (c .enum-told .given .1) ∙ c .before .before .first-wide .ensures)
 
 returns : tie.Need-returns
 returns c =
@@ -30,7 +31,7 @@ returns-3 : tie.Need-returns-3
 returns-3 c =
     let known = c .before .before in
     let args = known .before .before .before .before .before .before .args in
-    let found = found-at _ _ (sym (known .before .before .first-wide .ensures) ∙ known .w .given .1) in
+    let found = found-some _ _ (sym (known .w .given .1) ∙ known .before .before .first-wide .ensures) in
     rw (packing-wide (args .sent .now) (args .out .now) _ (known .before .before .before .if1 .left) found)
     (record { result = c .refused2 .ensures; lent = refl })
 

@@ -4,7 +4,7 @@ use Prim.Native.Nat.{_≤_, _-_}
 use native.Mathlib.Omega.{arith}
 use borrow.Author.Needs.{needs}
 use Rattle.patch.specs.Patch.{firstHalf, halfFrom}
-use Rattle.patch.specs.code.Passes.{foundAt}
+use Rattle.ranges.specs.code.Found.{foundAt}
 use Rattle.patch.proofs.Steps.{bus-whole, bus-half, buses-done}
 use Rattle.patch.proofs.first_half.Statement.{statement}
 use Rattle.patch.proofs.first_half.Tie as tie

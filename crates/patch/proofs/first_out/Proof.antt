@@ -9,14 +9,15 @@ use borrow.Author.Needs.{needs}
 use borrow.Author.Tests.{le-leb, lt-leb}
 use Rattle.fields.specs.Fields.{fields, inRange}
 use Rattle.fields.proofs.Widths.{column, widths, in-range-columns}
-use Rattle.patch.specs.Patch.{firstOut, outFrom}
-use Rattle.patch.specs.code.Passes.{foundAt}
-use Rattle.patch.proofs.Steps.{byte-in, byte-out, bytes-done}
+use Rattle.ranges.specs.Ranges.{outFrom}
+use Rattle.ranges.specs.code.Found.{foundAt}
+use Rattle.ranges.proofs.Steps.{byte-in, byte-out, bytes-done}
+use Rattle.patch.specs.Patch.{firstOut}
 use Rattle.patch.proofs.first_out.Statement.{statement}
 use Rattle.patch.proofs.first_out.Tie as tie
 
 abbrev Inv-loop : tie.InvT-loop
-Inv-loop p least width k₀ k = (k ≤ 134) × (firstOut p ≡ outFrom k (drop k p))
+Inv-loop p least width k₀ k = (k ≤ 134) × (firstOut p ≡ outFrom fields k (drop k p))
 
 abbrev μ-loop : tie.MeasureT-loop
 μ-loop p least width k₀ k = 134 - k
@@ -39,19 +40,19 @@ unfolding column fields
 returns-2 c =
     let l = c .before .before .before .before in
     let p = l .before .before .before .before .args .p .now in
-    sym (ap foundAt (l .loop .inv .1 ∙ byte-out p (l .loop .k) (omega arith) (judged (c .before) ∙ lt-leb _ _ (c .if2 .taken))))
+    sym (ap foundAt (l .loop .inv .1 ∙ byte-out fields p (l .loop .k) (omega arith) (judged (c .before) ∙ lt-leb _ _ (c .if2 .taken))))
 
 loop-again : tie.Need-loop-again Inv-loop μ-loop
 unfolding column fields
 loop-again c =
     let l = c .before .before .before .before in
     let p = l .before .before .before .before .args .p .now in
-    (omega arith, l .loop .inv .1 ∙ byte-in p (l .loop .k) (omega arith) (judged (c .before) ∙ le-leb _ _ (c .if2 .left)))
+    (omega arith, l .loop .inv .1 ∙ byte-in fields p (l .loop .k) (omega arith) (judged (c .before) ∙ le-leb _ _ (c .if2 .left)))
 
 returns-3 : tie.Need-returns-3 Inv-loop μ-loop
 returns-3 c =
     let l = c .before in
-    sym (ap foundAt (l .loop .inv .1 ∙ bytes-done (l .before .before .before .before .args .p .now) (l .loop .k) (omega arith)))
+    sym (ap foundAt (l .loop .inv .1 ∙ bytes-done fields (l .before .before .before .before .args .p .now) (l .loop .k) (omega arith)))
 
 pub first-out-spec : {M : Type 1} → statement M
 first-out-spec =

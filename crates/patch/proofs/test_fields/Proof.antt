@@ -3,7 +3,8 @@ use mathlib.Core.Path.{refl, sym, _∙_}
 use mathlib.Core.Option.{none, some}
 use borrow.Author.Needs.{needs}
 use Rattle.patch.specs.Patch.{firstOut, firstHalf}
-use Rattle.patch.proofs.Tests.{found-some, found-none, fields-answer}
+use Rattle.ranges.proofs.Found.{found-some, found-none}
+use Rattle.patch.proofs.Tests.{fields-answer}
 use Rattle.patch.proofs.test_fields.Statement.{statement}
 use Rattle.patch.proofs.test_fields.Tie as tie
 

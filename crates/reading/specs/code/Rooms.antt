@@ -6,7 +6,7 @@ use lib.ListN.{length, take, drop}
 use Rattle.answers.specs.Lists.{All}
 use Rattle.answers.specs.Table.{outcomeOf}
 use Rattle.frames.specs.Stream.{Report, reports}
-use Rattle.frames.specs.Scan.{outside, inside, scan}
+use Rattle.frames.specs.code.Scan.{outside, inside, scan}
 use Rattle.messages.specs.Judge.{judge}
 use Rattle.reading.specs.declared.listing.Listed.{Listed}
 

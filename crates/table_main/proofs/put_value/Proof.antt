@@ -3,7 +3,7 @@ use native.Mathlib.Omega.{arith}
 use borrow.Author.Tests.{lt-ltb, le-ltb}
 use Rattle.text.specs.Text.{ascii}
 use Rattle.text.proofs.Puts.{puts-then}
-use Rattle.fields.specs.Values.{valueOf}
+use Rattle.ranges.specs.Values.{valueOf}
 use borrow.Author.Needs.{needs}
 use Rattle.table_main.proofs.put_value.Statement.{statement}
 use Rattle.table_main.proofs.put_value.Tie as tie

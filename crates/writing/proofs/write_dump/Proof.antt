@@ -5,9 +5,10 @@ use Prim.Native.Nat.{ℕ}
 use native.Mathlib.Omega.{arith}
 use lib.ListN.{length}
 use borrow.Author.Needs.{needs}
-use Rattle.answers.specs.Table.{Row, Silent}
+use Rattle.answers.specs.Table.{Row}
 use Rattle.answers.proofs.Rows.{row-equal}
 use Rattle.answers.proofs.Effects.{passed, gives-stopped, gives-short, gives-written}
+use Rattle.answers.specs.promises.Decides.{Silent}
 use Rattle.messages.specs.declared.kinds.Dump.{Dump}
 use Rattle.messages.specs.Kinds.{sizeOf}
 use Rattle.messages.specs.Layout.{dump, dumpGiven}

@@ -6,10 +6,11 @@ use native.Mathlib.Omega.{arith}
 use lib.ListN.{length, length-append, length-drop, length-set}
 use borrow.Author.Needs.{needs}
 use borrow.Rule.Slice.PartMut.{putMid, same-len-mid}
-use Rattle.answers.specs.Table.{Row, Silent}
+use Rattle.answers.specs.Table.{Row}
 use Rattle.answers.proofs.Lists.{to-end, put-next, then-part}
 use Rattle.answers.proofs.Rows.{row-equal}
 use Rattle.answers.proofs.Effects.{passed, gives-stopped, gives-short, gives-written}
+use Rattle.answers.specs.promises.Decides.{Silent}
 use Rattle.messages.specs.declared.kinds.Kind.the-variants.{Short as ofShort}
 use Rattle.messages.specs.declared.kinds.Short.{Short}
 use Rattle.messages.specs.Kinds.{countOf}

@@ -7,7 +7,7 @@ use lib.ListN.{length}
 use borrow.Author.Needs.{needs}
 use Rattle.messages.specs.Kinds.{packedSize}
 use Rattle.messages.proofs.Accepted.{Accepted}
-use Rattle.reading.proofs.Records.{read-refused, read-accepted, size-its, read-short, read-stored, packed-into, nothing-packed}
+use Rattle.reading.proofs.Records.{read-refused, read-accepted, read-short, read-stored, packed-into, nothing-packed}
 use Rattle.reading.proofs.recording.read_content.Statement.{statement}
 use Rattle.reading.proofs.recording.read_content.Tie as tie
 
@@ -19,7 +19,7 @@ returns c =
     (c .before .if1 .taken) (c .bare .ensures)
 
 abbrev judging : tie.After-packed-size → tie.After-judge-content
-judging c = c .before .before .before .before .before .before
+judging c = c .before .before .before .before .before .before .before
 
 abbrev content : tie.After-packed-size → List ℕ
 content c = judging c .before .before .before .args .content .now
@@ -27,14 +27,18 @@ content c = judging c .before .before .before .args .content .now
 abbrev buffer : tie.After-packed-size → List ℕ
 buffer c = judging c .before .before .before .args .buffer .now
 
--- What is accepted, and that its size is the one found.
+-- What is accepted has an opcode, and the size that the opcode finds.
+opcode-there : tie.Need-shared-slice-read-kind-of
+opcode-there c =
+    let at = c .before .before .before .before .before in
+    let content = at .before .before .before .args .content .now in
+    omega (arith, read-accepted content (at .judge-content .result) (at .judge-content .ensures) (c .before .if1 .left) .long)
+
 its : (c : tie.After-packed-size) → Accepted (content c)
-its c = read-accepted (content c) (judging c .judge-content .result) (judging c .judge-content .ensures) (c .before .before .if1 .left)
+its c = read-accepted (content c) (judging c .judge-content .result) (judging c .judge-content .ensures) (c .before .before .before .if1 .left)
 
 size : (c : tie.After-packed-size) → c .packed-size .result ≡ its c .size
-size c =
-    let judged = judging c .judge-content in
-    c .packed-size .ensures ∙ ap packedSize (c .before .kind-of .ensures) ∙ size-its (content c) (judged .result) (judged .ensures) (its c)
+size c = c .packed-size .ensures ∙ ap packedSize (c .before .kind-of .ensures) ∙ its c .sized
 
 returns-2 : tie.Need-returns-2
 returns-2 c =
@@ -49,10 +53,10 @@ within : (c : tie.Then3) → 4 + 2 * c .before .before .packed-size .result < le
 within c = let found = c .before .before in let e = size found in omega (arith, its found .fits (omega (arith, c .if3 .taken)))
 
 mul-pack-into : tie.Need-mul-pack-into
-mul-pack-into c = omega (arith, within c, c .before .before .before .before .before .before .before .before .before .before .before .good)
+mul-pack-into c = omega (arith, within c, judging (c .before .before) .before .before .before .good)
 
 add-pack-into : tie.Need-add-pack-into
-add-pack-into c = omega (arith, within c, c .before .before .before .before .before .before .before .before .before .before .before .good)
+add-pack-into c = omega (arith, within c, judging (c .before .before) .before .before .before .good)
 
 part-pack-into-end : tie.Need-part-pack-into-end
 part-pack-into-end c = omega (arith, within c)
@@ -90,6 +94,7 @@ read-content-spec =
     (λ c κs. search needs)
     (λ c κs. search needs)
     returns
+    opcode-there
     (λ c κs. search needs)
     (λ c κs. search needs)
     (λ c κs. search needs)

@@ -1,0 +1,141 @@
+// A dump by its description.
+use crate::Judged;
+use crate::accepted;
+use crate::refused;
+use crate::refused_by;
+use answers::DONE;
+use answers::NOT_ALLOWED;
+use answers::Outcome;
+use answers::WRONG_LENGTH;
+use answers::WRONG_SUM;
+use messages::kinds::Behind;
+use messages::kinds::Dump;
+use messages::kinds::MASTER;
+use messages::kinds::PATCH;
+use messages::kinds::Packed;
+use messages::kinds::size_of;
+ghost use mathlib.Core.Path.{_≡_};
+ghost use Prim.Native.Nat.{_+_, _*_, _≤_};
+ghost use lib.ListN.{length, getD};
+ghost use Rattle.answers.specs.Effect.{tested};
+ghost use Rattle.fields.specs.Fields.{size};
+ghost use Rattle.frames.specs.Bytes.{framed};
+ghost use Rattle.messages.specs.declared.kinds.Kind.the-variants.{Dump as ofDump};
+ghost use Rattle.messages.specs.declared.kinds.Packed.the-variants.{Patch as aPatch};
+ghost use Rattle.messages.specs.Kinds.{sizeOf, master, Sized};
+ghost use Rattle.messages.specs.Judge.{sentRows, lentRows, misnumbered, numberIn};
+ghost use Rattle.judging.specs.code.Judged.{kindVerdict, judged, Checked, sentIn, sumIn};
+
+// Where the data bytes of a patch dump end in its content, and its sum stands.
+const PATCH_SENT: usize = 4 + 2 * PATCH;
+
+// The data bytes of a dump and the sum behind them: 9, 10. The packed bytes are left in `packed`, which fits them.
+// The callers below have seen the length.
+fn check_data(sent: &[u8], sum: u8, packed: &mut [u8]) -> Outcome
+    requires { ⌜ length (now sent) ≡ 2 * length (now packed) ⌝ }
+    ensures { λ r. ⌜ Checked (now (sent .entry)) sum (now (packed .exit)) r ⌝ }
+{
+    let p = nibbles::pack_into(sent, packed);
+    if p.answer != DONE {
+        return p;
+    }
+    if nibbles::checksum(packed) != sum {
+        return answers::refused(WRONG_SUM, 0);
+    }
+    answers::done(0)
+}
+
+// The tests of packed bytes themselves: 7 for another count of them, then a patch's 11 and 12.
+pub fn test_packed(packed: Packed, bytes: &[u8]) -> Outcome
+    ensures { λ r. ⌜ r ≡ tested (lentRows packed (now (bytes .entry))) ⌝ }
+{
+    match packed {
+        Packed::Patch => patch::test(bytes),
+        Packed::AnyBytes(count) => {
+            if bytes.len() != count {
+                return answers::refused(WRONG_LENGTH, 0);
+            }
+            answers::done(0)
+        }
+    }
+}
+
+// The data of a patch, and its fields: 9 to 12, by numbers that the compiler sees. The caller below has seen the length.
+fn check_patch(sent: &[u8], sum: u8) -> Outcome
+    requires { ⌜ length (now sent) ≡ 2 * size ⌝ }
+    ensures { λ r. ⌜ r ≡ tested (sentRows aPatch (now (sent .entry)) sum) ⌝ }
+{
+    let mut packed = [0u8; PATCH];
+    let data = check_data(sent, sum, &mut packed);
+    if data.answer != DONE {
+        return data;
+    }
+    patch::test(&packed)
+}
+
+// The data of any packed bytes, and their own tests, in a room that fits them. The caller below has seen the length.
+fn check_room(packed: Packed, sent: &[u8], sum: u8, room: &mut [u8]) -> Outcome
+    requires { ⌜ (length (now sent) ≡ 2 * length (now room)) × (length (now room) ≡ sizeOf packed) ⌝ }
+    ensures { λ r. ⌜ r ≡ tested (sentRows packed (now (sent .entry)) sum) ⌝ }
+{
+    let data = check_data(sent, sum, room);
+    if data.answer != DONE {
+        return data;
+    }
+    test_packed(packed, room)
+}
+
+// The data and the packed bytes of a dump: 9 to 12. The caller below has seen the length.
+fn check_packed(packed: Packed, content: &[u8]) -> Outcome
+    requires { ⌜ (length (now content) ≡ 5 + 2 * sizeOf packed) × (sizeOf packed ≤ master) ⌝ }
+    ensures { λ r. ⌜ r ≡ tested (sentRows packed (sentIn (sizeOf packed) (now (content .entry))) (sumIn (sizeOf packed) (now (content .entry)))) ⌝ }
+{
+    if let Packed::Patch = packed {
+        return check_patch(&content[4..PATCH_SENT], content[PATCH_SENT]);
+    }
+    let count = size_of(packed);
+    let end = 4 + 2 * count;
+    let mut room = [0u8; MASTER];
+    check_room(packed, &content[4..end], content[end], &mut room[..count])
+}
+
+// The byte behind a dump's opcode does not pass.
+pub fn wrong_number(behind: Behind, byte: u8) -> bool
+    ensures { λ r. ⌜ r ≡ misnumbered behind byte ⌝ }
+{
+    match behind {
+        Behind::NumberTo(greatest) => greatest < byte,
+        Behind::Always(same) => byte != same,
+    }
+}
+
+// What comes with the answer: the number, or zero.
+fn number_of(behind: Behind, byte: u8) -> u8
+    ensures { λ r. ⌜ r ≡ getD (numberIn behind byte) 0 0 ⌝ }
+{
+    match behind {
+        Behind::NumberTo(_) => byte,
+        Behind::Always(_) => 0,
+    }
+}
+
+// A dump: 7, then 8 to 12. The caller has the kind from its opcode.
+pub(crate) fn judge_dump(kind: Dump, content: &[u8]) -> Judged
+    requires { ⌜ Sized (ofDump kind) ⌝ }
+    ensures { λ r. ⌜ r ≡ judged (kindVerdict (ofDump kind) (framed (now (content .entry)))) ⌝ }
+{
+    if content.len() + 2 != kind.length {
+        return refused_by(WRONG_LENGTH);
+    }
+    let behind = kind.behind;
+    let number = content[3];
+    if wrong_number(behind, number) {
+        return refused_by(NOT_ALLOWED);
+    }
+    let packed = kind.packed;
+    let tested = check_packed(packed, content);
+    if tested.answer != DONE {
+        return refused(tested);
+    }
+    accepted(kind.opcode, [number_of(behind, number), 0, 0, 0])
+}

@@ -1,0 +1,83 @@
+-- Runs of bytes from a place on, none of them out of range: byte by byte, joined and split, one byte stored.
+use mathlib.Core.Path.{_≡_, refl}
+use mathlib.Core.Bool.{Bool, true, false, cond}
+use mathlib.Core.List.{List, [], _∷_, _++_}
+use mathlib.Core.Option.{none, some}
+use Prim.Native.Nat.{ℕ, zero, suc, _+_, _≤_, _<_}
+use native.Mathlib.Omega.{arith}
+use native.Mathlib.Numerals.{add-one}
+use lib.Dec.{T}
+use lib.ListN.{length, set}
+use Rattle.answers.specs.Lists.{All}
+use Rattle.ranges.specs.Ranges.{Table, leastIn, greatestIn, inRow, outFrom}
+use Rattle.ranges.proofs.Below.{each, at}
+use Rattle.ranges.proofs.Between.{is-byte, narrow, narrow-apart}
+
+module _ (t : Table) where
+  -- Bytes from place k on, none out of range: the first is accepted, and none of the rest is out of range.
+  pub one-in : (k b : ℕ) (p : List ℕ) → outFrom t k (b ∷ p) ≡ none → (inRow t k b ≡ true) × (outFrom t (suc k) p ≡ none)
+  unfolding outFrom
+  one-in k b p e = go (inRow t k b) refl e
+    where
+      go : (u : Bool) → inRow t k b ≡ u → cond u (outFrom t (suc k) p) (some k) ≡ none → (inRow t k b ≡ true) × (outFrom t (suc k) p ≡ none)
+      go true q e = (q, e)
+      go false q e = let z : _≡_ {A = ℕ} 0 1 = cc in absurd (omega arith)
+
+  -- A byte that is accepted before bytes none of which is out of range.
+  pub one-more-in : (k b : ℕ) (p : List ℕ) → inRow t k b ≡ true → outFrom t (suc k) p ≡ none → outFrom t k (b ∷ p) ≡ none
+  unfolding outFrom
+  one-more-in k b p e f = simp (e, f)
+
+  -- No bytes, none out of range.
+  pub none-out : (k : ℕ) → outFrom t k [] ≡ none
+  unfolding outFrom
+  none-out k = refl
+
+  -- Bytes none of which is out of range are bytes.
+  pub run-bytes : (k : ℕ) (p : List ℕ) → outFrom t k p ≡ none → All (λ b. b < 256) p
+  unfolding inRow
+  run-bytes k [] e = tt
+  run-bytes k (b ∷ p) e = let c = one-in k b p e in (is-byte (leastIn t k) (greatestIn t k) b (c .0), run-bytes (suc k) p (c .1))
+
+  -- The lowest place out of range among three bytes.
+  pub three : (k s a d : ℕ) → outFrom t k (s ∷ a ∷ d ∷ [])
+      ≡ cond (inRow t k s) (cond (inRow t (k + 1) a) (cond (inRow t (k + 2) d) none (some (k + 2))) (some (k + 1))) (some k)
+  unfolding outFrom
+  three k s a d = let two : k + 2 ≡ suc (suc k) = omega arith in rw (add-one k, two)
+
+  -- A byte that is accepted at its place is stored: still no place is out of range.
+  pub out-set : (j k b : ℕ) (p : List ℕ) → outFrom t j p ≡ none → inRow t (j + k) b ≡ true → outFrom t j (set p k b) ≡ none
+  out-set j k b [] e h = e
+  out-set j zero b (x ∷ p) e h = let same : j + 0 ≡ j = omega arith in one-more-in j b p (rw same at h) (one-in j x p e .1)
+  out-set j (suc k) b (x ∷ p) e h =
+      let c = one-in j x p e in
+      let same : j + suc k ≡ suc j + k = omega arith in
+      one-more-in j x (set p k b) (c .0) (out-set (suc j) k b p (c .1) (rw same at h))
+
+  -- Two runs of bytes, the second from place m on, with none out of range: nor has their join one.
+  pub out-join : (k m : ℕ) (a r : List ℕ) → k + length a ≡ m → outFrom t k a ≡ none → outFrom t m r ≡ none → outFrom t k (a ++ r) ≡ none
+  out-join k m [] r h e f = let same : m ≡ k = omega arith in rw same at f
+  out-join k m (x ∷ a) r h e f =
+      let c = one-in k x a e in
+      one-more-in k x (a ++ r) (c .0) (out-join (suc k) m a r (omega arith) (c .1) f)
+
+  -- A join without one out of range: nor has either run one.
+  pub out-split : (k m : ℕ) (a r : List ℕ) → k + length a ≡ m → outFrom t k (a ++ r) ≡ none → (outFrom t k a ≡ none) × (outFrom t m r ≡ none)
+  out-split k m [] r h e = let same : k ≡ m = omega arith in (none-out k, rw same at e)
+  out-split k m (x ∷ a) r h e =
+      let c = one-in k x (a ++ r) e in
+      let d = out-split (suc k) m a r (omega arith) (c .1) in
+      (one-more-in k x a (c .0) (d .0), d .1)
+
+  -- Every row spans at most 128 bytes.
+  abbrev pub narrow-row : ℕ → Bool
+  narrow-row k = narrow (leastIn t k) (greatestIn t k)
+
+  -- Where they do, two runs of bytes that differ in one byte, by 128, do not both pass.
+  pub runs-apart : T (each narrow-row (length t)) → (k : ℕ) (p₁ : List ℕ) (b : ℕ) (p₂ : List ℕ) → k + length (p₁ ++ b ∷ p₂) ≤ length t
+      → outFrom t k (p₁ ++ b ∷ p₂) ≡ none → outFrom t k (p₁ ++ (b + 128) ∷ p₂) ≡ none → ⊥
+  unfolding inRow
+  runs-apart n k [] b p₂ h e f =
+      narrow-apart (leastIn t k) (greatestIn t k) b (at narrow-row (length t) n k (omega arith)) (one-in k b p₂ e .0) (one-in k (b + 128) p₂ f .0)
+  runs-apart n k (x ∷ p₁) b p₂ h e f =
+      runs-apart n (suc k) p₁ b p₂ (omega arith) (one-in k x (p₁ ++ b ∷ p₂) e .1) (one-in k x (p₁ ++ (b + 128) ∷ p₂) f .1)

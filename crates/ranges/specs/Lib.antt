@@ -1,0 +1,4 @@
+pub mod Ranges
+pub mod Values
+pub mod promises
+pub mod code

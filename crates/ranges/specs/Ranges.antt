@@ -1,0 +1,47 @@
+-- Ranges of bytes, and tables of them: a row for each place of packed bytes.
+use mathlib.Core.Bool.{Bool, cond, not, _&&_, _||_}
+use mathlib.Core.List.{List, [], _∷_}
+use mathlib.Core.Option.{Option, none, some}
+use Prim.Native.Nat.{ℕ, suc}
+use lib.Dec.{eqb, leb, ltb}
+use lib.ListN.{length, getD}
+use Rattle.answers.specs.Table.{Row, row, rowAt}
+
+-- A row: place, parameter, least and greatest value. Values are bytes as stored; where the least is above the greatest the field is signed,
+-- and its range goes on from 255 to 0: C0H..3FH is -64..63, E0H..1FH is -32..31.
+abbrev pub Table : Type 0
+Table = List (List ℕ)
+
+abbrev pub field : ℕ → ℕ → ℕ → ℕ → List ℕ
+field place parameter least greatest = place ∷ parameter ∷ least ∷ greatest ∷ []
+
+-- The four numbers of row k, each 0 past the table.
+abbrev pub placeIn : Table → ℕ → ℕ
+placeIn t k = getD (getD t k []) 0 0
+
+abbrev pub parameterIn : Table → ℕ → ℕ
+parameterIn t k = getD (getD t k []) 1 0
+
+abbrev pub leastIn : Table → ℕ → ℕ
+leastIn t k = getD (getD t k []) 2 0
+
+abbrev pub greatestIn : Table → ℕ → ℕ
+greatestIn t k = getD (getD t k []) 3 0
+
+-- A byte lies between two bounds.
+unfoldable pub between : ℕ → ℕ → ℕ → Bool
+between least greatest b =
+    ltb b 256 && cond (leb least greatest) (leb least b && leb b greatest) (leb least b || leb b greatest)
+
+-- A byte lies in the range of its row.
+unfoldable pub inRow : Table → ℕ → ℕ → Bool
+inRow t k b = between (leastIn t k) (greatestIn t k) b
+
+-- The lowest place out of range among bytes the first of which stands at place k.
+unfoldable pub outFrom : Table → ℕ → List ℕ → Option ℕ
+outFrom t k [] = none
+outFrom t k (b ∷ p) = cond (inRow t k b) (outFrom t (suc k) p) (some k)
+
+-- The tests of bytes that have a table: 7 for another count of them than it has rows, then 11.
+abbrev pub tableRows : Table → List ℕ → List Row
+tableRows t p = row 7 (not (eqb (length p) (length t))) ∷ rowAt 11 (outFrom t 0 p) ∷ []
