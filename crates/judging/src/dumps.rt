@@ -15,13 +15,14 @@ use messages::kinds::PATCH;
 use messages::kinds::Packed;
 use messages::kinds::size_of;
 ghost use mathlib.Core.Path.{_≡_};
+ghost use mathlib.Core.Bool.{true};
 ghost use Prim.Native.Nat.{_+_, _*_, _≤_};
 ghost use lib.ListN.{length, getD};
 ghost use Rattle.answers.specs.Effect.{tested};
 ghost use Rattle.fields.specs.Fields.{size};
 ghost use Rattle.frames.specs.Bytes.{framed};
 ghost use Rattle.messages.specs.declared.kinds.Kind.the-variants.{Dump as ofDump};
-ghost use Rattle.messages.specs.declared.kinds.Packed.the-variants.{Patch as aPatch};
+ghost use Rattle.messages.specs.declared.kinds.Packed.the-variants.{Patch as aPatch, AnyBytes as anyBytes};
 ghost use Rattle.messages.specs.Kinds.{sizeOf, master, Sized};
 ghost use Rattle.messages.specs.Judge.{sentRows, lentRows, misnumbered, numberIn};
 ghost use Rattle.judging.specs.code.Judged.{kindVerdict, judged, Checked, sentIn, sumIn};
@@ -45,18 +46,23 @@ fn check_data(sent: &[u8], sum: u8, packed: &mut [u8]) -> Outcome
     answers::done(0)
 }
 
-// The tests of packed bytes themselves: 7 for another count of them, then a patch's 11 and 12.
+// So many bytes of any value: 7 for another count of them.
+fn test_count(count: usize, bytes: &[u8]) -> Outcome
+    ensures { λ r. ⌜ r ≡ tested (lentRows (anyBytes count) (now (bytes .entry))) ⌝ }
+{
+    if bytes.len() != count {
+        return answers::refused(WRONG_LENGTH, 0);
+    }
+    answers::done(0)
+}
+
+// The tests of packed bytes themselves: 7 for another count of them, then their own 11 and 12.
 pub fn test_packed(packed: Packed, bytes: &[u8]) -> Outcome
     ensures { λ r. ⌜ r ≡ tested (lentRows packed (now (bytes .entry))) ⌝ }
 {
     match packed {
         Packed::Patch => patch::test(bytes),
-        Packed::AnyBytes(count) => {
-            if bytes.len() != count {
-                return answers::refused(WRONG_LENGTH, 0);
-            }
-            answers::done(0)
-        }
+        Packed::AnyBytes(count) => test_count(count, bytes),
     }
 }
 
@@ -85,12 +91,22 @@ fn check_room(packed: Packed, sent: &[u8], sum: u8, room: &mut [u8]) -> Outcome
     test_packed(packed, room)
 }
 
+// `true` only for a patch, whose numbers the compiler sees.
+fn is_patch(packed: Packed) -> bool
+    ensures { λ r. ⌜ (r ≡ true → packed ≡ aPatch) ⌝ }
+{
+    match packed {
+        Packed::Patch => true,
+        _ => false,
+    }
+}
+
 // The data and the packed bytes of a dump: 9 to 12. The caller below has seen the length.
 fn check_packed(packed: Packed, content: &[u8]) -> Outcome
     requires { ⌜ (length (now content) ≡ 5 + 2 * sizeOf packed) × (sizeOf packed ≤ master) ⌝ }
     ensures { λ r. ⌜ r ≡ tested (sentRows packed (sentIn (sizeOf packed) (now (content .entry))) (sumIn (sizeOf packed) (now (content .entry)))) ⌝ }
 {
-    if let Packed::Patch = packed {
+    if is_patch(packed) {
         return check_patch(&content[4..PATCH_SENT], content[PATCH_SENT]);
     }
     let count = size_of(packed);

@@ -5,9 +5,6 @@ use Rattle.writing.specs.Writing.{writing}
 use Rattle.writing.proofs.write_edit_buffer.Statement.{statement}
 use Rattle.writing.proofs.write_edit_buffer.Tie as tie
 
-returns : tie.Need-returns
-unfolding writing
-returns c = c .before .before .write-dump .ensures
-
 pub write-edit-buffer-spec : {M : Type 1} → statement M
-write-edit-buffer-spec = tie.close (tie.spec (λ c κs. omega arith) (λ c. search needs) returns)
+unfolding writing
+write-edit-buffer-spec = tie.close (tie.spec (λ c κs. omega arith) (λ c. search needs) (λ c. c .before .before .write-dump .ensures))

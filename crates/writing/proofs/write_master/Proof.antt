@@ -5,9 +5,6 @@ use Rattle.writing.specs.Writing.{writing}
 use Rattle.writing.proofs.write_master.Statement.{statement}
 use Rattle.writing.proofs.write_master.Tie as tie
 
-returns : tie.Need-returns
-unfolding writing
-returns c = c .before .before .write-dump .ensures
-
 pub write-master-spec : {M : Type 1} → statement M
-write-master-spec = tie.close (tie.spec (λ c κs. omega arith) (λ c. search needs) returns)
+unfolding writing
+write-master-spec = tie.close (tie.spec (λ c κs. omega arith) (λ c. search needs) (λ c. c .before .before .write-dump .ensures))

@@ -5,9 +5,6 @@ use Rattle.writing.specs.Writing.{writing}
 use Rattle.writing.proofs.write_patch.Statement.{statement}
 use Rattle.writing.proofs.write_patch.Tie as tie
 
-returns : tie.Need-returns
-unfolding writing
-returns c = c .before .before .write-dump .ensures
-
 pub write-patch-spec : {M : Type 1} → statement M
-write-patch-spec = tie.close (tie.spec (λ c κs. omega arith) (λ c. search needs) returns)
+unfolding writing
+write-patch-spec = tie.close (tie.spec (λ c κs. omega arith) (λ c. search needs) (λ c. c .before .before .write-dump .ensures))

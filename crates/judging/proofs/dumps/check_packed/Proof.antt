@@ -6,13 +6,17 @@ use native.Mathlib.Omega.{arith}
 use lib.ListN.{length, take, drop, replicate, length-drop}
 use lib.Seq.{length-take-le}
 use borrow.Author.Needs.{needs}
+use Rattle.messages.specs.declared.kinds.Packed.the-variants.{Patch as aPatch}
 use Rattle.messages.specs.Kinds.{sizeOf}
 use Rattle.judging.proofs.dumps.check_packed.Statement.{statement}
 use Rattle.judging.proofs.dumps.check_packed.Tie as tie
 
 -- A patch.
-long : (c : tie.After-enum-told) → length (c .before .before .before .args .content .now) ≡ 273
-long c = rw (c .enum-told .given .1) at (c .before .before .before .pre .0)
+patch : (c : tie.Then1) → c .before .before .before .args .packed ≡ aPatch
+patch c = c .before .is-patch .ensures (c .if1 .taken)
+
+long : (c : tie.Then1) → length (c .before .before .before .args .content .now) ≡ 273
+long c = rw (patch c) at (c .before .before .before .pre .0)
 
 patch-end : tie.Need-part-check-patch-end
 patch-end c = omega (arith, long c)
@@ -21,7 +25,7 @@ patch-sum : tie.Need-shared-slice-read-check-patch
 patch-sum c = omega (arith, long (c .before .before))
 
 returns : tie.Need-returns
-returns c = rw (c .before .before .before .enum-told .given .1) (c .check-patch .ensures)
+returns c = rw (patch (c .before .before .before)) (c .check-patch .ensures)
 
 -- Other bytes, by their count.
 counted : (c : tie.After-size-of) → c .size-of .result ≡ sizeOf (c .before .before .before .before .args .packed)
@@ -68,14 +72,13 @@ pub check-packed-spec : {M : Type 1} → statement M
 check-packed-spec =
     tie.close
     (tie.spec
-    (λ c. search needs)
+    (λ c κs. search needs)
     (λ c. search needs)
     (λ c. search needs)
     patch-end
     patch-sum
     (λ c κs. search needs)
     returns
-    (λ c. search needs)
     (λ c κs. search needs)
     (λ c. omega (arith, small c))
     (λ c. omega (arith, small c))
