@@ -17,9 +17,10 @@ use Rattle.messages.specs.declared.kinds.Dump.{Dump}
 use Rattle.messages.specs.declared.kinds.Kind.{Kind}
 use Rattle.messages.specs.declared.kinds.Kind.the-variants.{Dump as ofDump, Short as ofShort}
 use Rattle.messages.specs.declared.kinds.Short.{Short}
-use Rattle.messages.specs.Kinds.{kindOf, opcodeOf, sizeOf, countOf, lengthOf, isUnknown, Sized}
+use Rattle.messages.specs.Kinds.{kindOf, opcodeOf, sizeOf, countOf, lengthOf, isUnknown}
 use Rattle.messages.specs.Judge.{byteAt, dumpRows, operandRows, numberIn, kindRows, recordOf, judge}
 use Rattle.judging.specs.code.Judged.{kindVerdict, judged, judgedAs, refusedBy, sentIn, sumIn}
+use Rattle.messages.proofs.Filed.{Sized}
 use Rattle.messages.proofs.DumpLaws.{dump-refusals}
 use Rattle.messages.proofs.Numbers.{operand-refusals}
 use Rattle.messages.proofs.Content.{framed-length, framed-byte, framed-data, framed-sum, framed-bytes}

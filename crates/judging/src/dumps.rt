@@ -17,13 +17,14 @@ use messages::kinds::size_of;
 ghost use mathlib.Core.Path.{_≡_};
 ghost use mathlib.Core.Bool.{true};
 ghost use Prim.Native.Nat.{_+_, _*_, _≤_};
+ghost use lib.Dec.{T};
 ghost use lib.ListN.{length, getD};
 ghost use Rattle.answers.specs.Effect.{tested};
 ghost use Rattle.fields.specs.Fields.{size};
 ghost use Rattle.frames.specs.Bytes.{framed};
 ghost use Rattle.messages.specs.declared.kinds.Kind.the-variants.{Dump as ofDump};
 ghost use Rattle.messages.specs.declared.kinds.Packed.the-variants.{Patch as aPatch, AnyBytes as anyBytes};
-ghost use Rattle.messages.specs.Kinds.{sizeOf, master, Sized};
+ghost use Rattle.messages.specs.Kinds.{sizeOf, master, sized};
 ghost use Rattle.messages.specs.Judge.{sentRows, lentRows, misnumbered, numberIn};
 ghost use Rattle.judging.specs.code.Judged.{kindVerdict, judged, Checked, sentIn, sumIn};
 
@@ -137,7 +138,7 @@ fn number_of(behind: Behind, byte: u8) -> u8
 
 // A dump: 7, then 8 to 12. The caller has the kind from its opcode.
 pub(crate) fn judge_dump(kind: Dump, content: &[u8]) -> Judged
-    requires { ⌜ Sized (ofDump kind) ⌝ }
+    requires { ⌜ T (sized (ofDump kind)) ⌝ }
     ensures { λ r. ⌜ r ≡ judged (kindVerdict (ofDump kind) (framed (now (content .entry)))) ⌝ }
 {
     if content.len() + 2 != kind.length {

@@ -11,12 +11,13 @@ use messages::kinds::Operands;
 use messages::kinds::Short;
 use messages::kinds::count_of;
 ghost use mathlib.Core.Path.{_≡_};
+ghost use lib.Dec.{T};
 ghost use lib.ListN.{getD};
 ghost use Rattle.answers.specs.Effect.{tested};
 ghost use Rattle.answers.specs.Table.{four};
 ghost use Rattle.frames.specs.Bytes.{framed};
 ghost use Rattle.messages.specs.declared.kinds.Kind.the-variants.{Short as ofShort};
-ghost use Rattle.messages.specs.Kinds.{Sized};
+ghost use Rattle.messages.specs.Kinds.{sized};
 ghost use Rattle.messages.specs.Judge.{lentOperandRows};
 ghost use Rattle.judging.specs.code.Judged.{kindVerdict, judged};
 
@@ -57,7 +58,7 @@ fn first_four(bytes: &[u8]) -> [u8; 4]
 
 // A short message: 7, then the tests of its bytes. The caller has the kind from its opcode.
 pub(crate) fn judge_short(kind: Short, content: &[u8]) -> Judged
-    requires { ⌜ Sized (ofShort kind) ⌝ }
+    requires { ⌜ T (sized (ofShort kind)) ⌝ }
     ensures { λ r. ⌜ r ≡ judged (kindVerdict (ofShort kind) (framed (now (content .entry)))) ⌝ }
 {
     if content.len() + 2 != kind.length {

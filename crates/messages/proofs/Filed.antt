@@ -2,12 +2,13 @@
 use mathlib.Core.Path.{_≡_, refl, sym, ap, subst}
 use mathlib.Core.Bool.{Bool, true, false, cond}
 use mathlib.Core.List.{List, [], _∷_}
-use Prim.Native.Nat.{ℕ, _≤_}
+use Prim.Native.Nat.{ℕ, _+_, _*_, _≤_}
 use native.Mathlib.Omega.{arith}
-use lib.Dec.{eqb}
+use lib.Dec.{T, eqb, eqb→eq, leb→le}
 use borrow.Author.Tests.{eqb-true, ne-eqb}
 use Rattle.answers.specs.Lists.{All}
-use Rattle.messages.specs.Kinds.{Kind, unknown, kinds, opcodeOf, among, kindOf, Filed, lengthOf, isUnknown, Sized}
+use Rattle.ranges.proofs.Below.{parts}
+use Rattle.messages.specs.Kinds.{Kind, ofDump, ofShort, unknown, kinds, opcodeOf, among, kindOf, Filed, lengthOf, isUnknown, sizeOf, countOf, master, sized}
 
 among-all : (P : Kind → Type 0) → P unknown → (ks : List Kind) → All P ks → (o : ℕ) → P (among ks o)
 among-all P u [] a o = u
@@ -53,11 +54,21 @@ pub found-filed : (o : ℕ) → isUnknown (kindOf o) ≡ false → Filed (kindOf
 found-filed o h = sym (ap kindOf (found-opcode o h))
 
 -- Each kind has the length that its parts add up to, and fits.
-pub kind-sized : (o : ℕ) → Sized (kindOf o)
-kind-sized = every-kind Sized tt (omega arith)
+abbrev pub Sized : Kind → Type 0
+Sized (ofDump k) = (k .length ≡ 7 + 2 * sizeOf (k .packed)) × (sizeOf (k .packed) ≤ master)
+Sized (ofShort k) = (k .length ≡ 5 + countOf (k .operands)) × (countOf (k .operands) ≤ 4)
+Sized unknown = Unit {0}
+
+pub is-sized : (k : Kind) → T (sized k) → Sized k
+is-sized (ofDump k) e = let q = parts (eqb (k .length) (7 + 2 * sizeOf (k .packed))) _ e in (eqb→eq _ _ (q .0), leb→le _ _ (q .1))
+is-sized (ofShort k) e = let q = parts (eqb (k .length) (5 + countOf (k .operands))) _ e in (eqb→eq _ _ (q .0), leb→le _ _ (q .1))
+is-sized unknown e = tt
+
+pub kind-sized : (o : ℕ) → T (sized (kindOf o))
+kind-sized = every-kind (λ k. T (sized k)) tt (omega arith)
 
 pub filed-sized : (k : Kind) → Filed k → Sized k
-filed-sized k f = subst Sized f (kind-sized (opcodeOf k))
+filed-sized k f = is-sized k (subst (λ (k : Kind). T (sized k)) f (kind-sized (opcodeOf k)))
 
 -- No kind is longer than 351.
 pub longest : (o : ℕ) → lengthOf (kindOf o) ≤ 351

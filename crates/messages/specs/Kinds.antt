@@ -1,10 +1,10 @@
 -- The kinds of message that the desk files. What a kind is stands here, once; its length, tests, record and layout are computed from it.
 use mathlib.Core.Path.{_≡_}
-use mathlib.Core.Bool.{Bool, true, false, cond}
+use mathlib.Core.Bool.{Bool, true, false, cond, _&&_}
 use mathlib.Core.List.{List, [], _∷_}
 use mathlib.Core.Option.{Option, none, some}
-use Prim.Native.Nat.{ℕ, _+_, _*_, _≤_}
-use lib.Dec.{eqb}
+use Prim.Native.Nat.{ℕ, _+_, _*_}
+use lib.Dec.{eqb, leb}
 use Rattle.ranges.specs.Ranges.{Table}
 use Rattle.fields.specs.Fields.{size, fields}
 use Rattle.patch.specs.Patch.{buses}
@@ -103,7 +103,7 @@ packedSize (ofShort k) = 0
 packedSize unknown = 0
 
 -- A kind's length is what its parts add up to, and it fits the room that the code has for it: as many packed bytes as a master has, four bytes with the answer.
-abbrev pub Sized : Kind → Type 0
-Sized (ofDump k) = (k .length ≡ 7 + 2 * sizeOf (k .packed)) × (sizeOf (k .packed) ≤ master)
-Sized (ofShort k) = (k .length ≡ 5 + countOf (k .operands)) × (countOf (k .operands) ≤ 4)
-Sized unknown = Unit {0}
+abbrev pub sized : Kind → Bool
+sized (ofDump k) = eqb (k .length) (7 + 2 * sizeOf (k .packed)) && leb (sizeOf (k .packed)) master
+sized (ofShort k) = eqb (k .length) (5 + countOf (k .operands)) && leb (countOf (k .operands)) 4
+sized unknown = true

@@ -411,7 +411,7 @@ module _ (ps : List ℕ) where
 
 -- Demand 1, whole.
 pub demand-1 : Demand1
-unfolding showing writing packing unpacking
+unfolding showing packing unpacking
 demand-1 = record {
   walk = λ s place.
       let l = found s place in

@@ -12,12 +12,11 @@ use Rattle.edits.specs.Edits.{extended, storedFor, editRows, busRows, withBus, 
 use Rattle.messages.specs.Kinds.{kindOf}
 use Rattle.messages.specs.Judge.{judge}
 use Rattle.messages.specs.Layout.{dump}
-use Rattle.writing.specs.Writing.{writing}
 use Rattle.theorems.specs.Examples.{Computes, starred, Starred}
 
 pub starred-hold : Starred
 unfolding nibbles total sum fields between inRow searchFrom placeOf outFrom halfUsed halfFrom stored anyOutside naming valueOf
-    extended storedFor editRows busRows withBus applying applyingBus kindOf judge dump writing
+    extended storedFor editRows busRows withBus applying applyingBus kindOf judge dump
 starred-hold =
     let others : All Computes (drop 12 starred) = (refl, (refl, (refl, (refl, (refl, (refl, (refl, (refl, (refl, (refl, (refl, (refl, (refl, tt))))))))))))) in
     (refl, (refl, (refl, (refl, (refl, (refl, (refl, (refl, (refl, (refl, (refl, (refl, others))))))))))))

@@ -19,12 +19,10 @@ use Rattle.theorems.specs.RoundTrips.{putting}
 module _ (k : Kind) (b p : List ℕ) where
   -- Where the rows say nothing and the message fits, it is written.
   pub takes : (out : List ℕ) → Silent (givenRows k b p) → length (message k b p) ≤ length out → writing k b p out ≡ putting (message k b p) out
-  unfolding writing
   takes out a h = written-fits (givenRows k b p) (message k b p) out a h
 
   -- Where it was written, they said nothing and it fitted.
   pub taken : (out : List ℕ) → writing k b p out .result .answer ≡ 0 → Silent (givenRows k b p) × (length (message k b p) ≤ length out)
-  unfolding writing
   taken out e = written-done (givenRows k b p) (message k b p) out (given-refusals k b p) e
 
   -- What holds of data bytes between F0H and F7H and what they come to holds of that message and its record.

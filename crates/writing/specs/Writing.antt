@@ -17,7 +17,7 @@ use Rattle.messages.specs.Layout.{dump, message, dumpGiven, givenRows}
 use Rattle.writing.specs.declared.BankOutcome.{BankOutcome}
 
 -- A message of a kind, from the bytes b that come with the answer and a dump's packed bytes p: its tests, then 13.
-unfoldable pub writing : Kind → List ℕ → List ℕ → List ℕ → Effect Outcome
+abbrev pub writing : Kind → List ℕ → List ℕ → List ℕ → Effect Outcome
 writing k b p out = written (givenRows k b p) (message k b p) out
 
 -- The same of a dump, by its description and the byte behind its opcode.

@@ -24,12 +24,13 @@ use messages::kinds::size_of;
 ghost use mathlib.Core.Path.{_≡_};
 ghost use mathlib.Core.List.{[], _∷_, _++_};
 ghost use Prim.Native.Nat.{_+_, _*_, _/_, _≤_};
+ghost use lib.Dec.{T};
 ghost use lib.ListN.{length, drop};
 ghost use Rattle.answers.specs.Effect.{Gives, tested, atStart};
 ghost use Rattle.fields.specs.Fields.{size};
 ghost use Rattle.nibbles.specs.Nibbles.{sum};
 ghost use Rattle.messages.specs.declared.kinds.Kind.the-variants.{Dump as ofDump, Short as ofShort};
-ghost use Rattle.messages.specs.Kinds.{singlePatch, masterParameters, editBuffer, remoteEdit, busEdit, Sized};
+ghost use Rattle.messages.specs.Kinds.{singlePatch, masterParameters, editBuffer, remoteEdit, busEdit, sized};
 ghost use Rattle.messages.specs.Layout.{dump, dumpGiven};
 ghost use Rattle.writing.specs.Writing.{writing, writingDump, writingBank, bankBytes, firstBad, bankTested, bankMost, noPlace};
 
@@ -92,7 +93,7 @@ fn test_dump(kind: Dump, number: u8, p: &[u8]) -> Outcome
 
 // Writes a dump by its description: its tests, then 13. Done with its length.
 fn write_dump(kind: Dump, number: u8, p: &[u8], out: &mut [u8]) -> Outcome
-    requires { ⌜ Sized (ofDump kind) ⌝ }
+    requires { ⌜ T (sized (ofDump kind)) ⌝ }
     ensures { λ r. ⌜ Gives (writingDump kind number (now (p .entry)) (now (out .entry))) r (now (out .exit)) ⌝ }
 {
     let tested = test_dump(kind, number, p);
@@ -142,7 +143,7 @@ fn put_bytes(bytes: &[u8], out: &mut [u8])
 
 // Writes a short message by its description: the tests of its bytes, then 13. Done with its length.
 fn write_short(kind: Short, bytes: &[u8], out: &mut [u8]) -> Outcome
-    requires { ⌜ Sized (ofShort kind) ⌝ }
+    requires { ⌜ T (sized (ofShort kind)) ⌝ }
     ensures { λ r. ⌜ Gives (writing (ofShort kind) (now (bytes .entry)) [] (now (out .entry))) r (now (out .exit)) ⌝ }
 {
     let operands = kind.operands;

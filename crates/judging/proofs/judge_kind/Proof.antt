@@ -1,7 +1,9 @@
 -- `judge_kind` judges by the kind that the opcode finds, which has the length that its parts add up to.
 use mathlib.Core.Path.{_∙_, sym, subst}
+use lib.Dec.{T}
 use borrow.Author.Needs.{needs}
-use Rattle.messages.specs.Kinds.{Sized}
+use Rattle.messages.specs.declared.kinds.Kind.{Kind}
+use Rattle.messages.specs.Kinds.{sized}
 use Rattle.messages.proofs.Filed.{kind-sized}
 use Rattle.judging.specs.code.Judged.{kindVerdict}
 use Rattle.judging.proofs.judge_kind.Statement.{statement}
@@ -10,12 +12,12 @@ use Rattle.judging.proofs.judge_kind.Tie as tie
 judge-dump-requires : tie.Need-judge-dump-requires
 judge-dump-requires c κs =
     let asked = c .before .before .before in
-    subst Sized (sym (asked .kind-of .ensures) ∙ c .before .kind .given .1) (kind-sized (asked .before .before .args .opcode))
+    subst (λ (k : Kind). T (sized k)) (sym (asked .kind-of .ensures) ∙ c .before .kind .given .1) (kind-sized (asked .before .before .args .opcode))
 
 judge-short-requires : tie.Need-judge-short-requires
 judge-short-requires c κs =
     let asked = c .before .before .before in
-    subst Sized (sym (asked .kind-of .ensures) ∙ c .before .kind2 .given .1) (kind-sized (asked .before .before .args .opcode))
+    subst (λ (k : Kind). T (sized k)) (sym (asked .kind-of .ensures) ∙ c .before .kind2 .given .1) (kind-sized (asked .before .before .args .opcode))
 
 returns : tie.Need-returns
 returns c = rw (← (c .before .before .before .before .kind-of .ensures), c .before .before .kind .given .1) (c .judge-dump .ensures)

@@ -10,8 +10,10 @@ use Rattle.answers.proofs.Rows.{row-equal}
 use Rattle.answers.proofs.Effects.{passed, gives-stopped, gives-short, gives-written}
 use Rattle.answers.specs.promises.Decides.{Silent}
 use Rattle.messages.specs.declared.kinds.Dump.{Dump}
+use Rattle.messages.specs.declared.kinds.Kind.the-variants.{Dump as ofDump}
 use Rattle.messages.specs.Kinds.{sizeOf}
 use Rattle.messages.specs.Layout.{dump, dumpGiven}
+use Rattle.messages.proofs.Filed.{is-sized}
 use Rattle.messages.proofs.Numbers.{dump-given-refusals}
 use Rattle.writing.proofs.Laws.{length-dump}
 use Rattle.writing.proofs.write_dump.Statement.{statement}
@@ -42,7 +44,7 @@ silent t z = passed (rows t) (t .test-dump .result) (dump-given-refusals (kind t
 size : (t : tie.After-test-dump) → t .test-dump .result .answer ≡ 0 → length (bytes t) ≡ kind t .length
 size t z =
     let whole = row-equal 7 (length (packed t)) (sizeOf (kind t .packed)) (silent t z .0) in
-    omega (arith, length-dump (kind t .opcode) (number t) (packed t), t .before .before .before .pre .0)
+    omega (arith, length-dump (kind t .opcode) (number t) (packed t), is-sized (ofDump (kind t)) (t .before .before .before .pre) .0)
 
 returns : tie.Need-returns
 returns c = let t = c .before .before in gives-stopped (rows t) (bytes t) (out t) (t .test-dump .result) (t .test-dump .ensures) (c .if1 .taken)

@@ -16,8 +16,8 @@ use Rattle.messages.specs.declared.kinds.Short.{Short}
 use Rattle.messages.specs.Kinds.{countOf}
 use Rattle.messages.specs.Judge.{lentOperandRows}
 use Rattle.messages.specs.Layout.{messageOf}
+use Rattle.messages.proofs.Filed.{is-sized}
 use Rattle.messages.proofs.Numbers.{given-refusals}
-use Rattle.writing.specs.Writing.{writing}
 use Rattle.writing.proofs.write_short.Statement.{statement}
 use Rattle.writing.proofs.write_short.Tie as tie
 
@@ -46,17 +46,15 @@ silent t z = passed (rows t) (t .test-operands .result) (given-refusals (ofShort
 counted : (t : tie.After-test-operands) → t .test-operands .result .answer ≡ 0 → kind t .length ≡ 5 + length (bytes t)
 counted t z =
     let whole = row-equal 7 (length (bytes t)) (countOf (kind t .operands)) (silent t z .0) in
-    omega (arith, t .before .before .before .pre .0)
+    omega (arith, is-sized (ofShort (kind t)) (t .before .before .before .pre) .0)
 
 size : (t : tie.After-test-operands) → t .test-operands .result .answer ≡ 0 → length (message t) ≡ kind t .length
 size t z = omega (arith, length-append (bytes t) (0xF7 ∷ []), counted t z)
 
 returns : tie.Need-returns
-unfolding writing
 returns c = let t = c .before .before in gives-stopped (rows t) (message t) (out t) (t .test-operands .result) (t .test-operands .ensures) (c .if1 .taken)
 
 returns-2 : tie.Need-returns-2
-unfolding writing
 returns-2 c =
     let t = c .before .before .before .before in
     let z = c .before .before .if1 .left in
@@ -107,7 +105,6 @@ same-length c =
     length-set (after-bytes w) (kind (before (opening-of w)) .length - 1) 0xF7 ∙ same-long w
 
 returns-3 : tie.Need-returns-3
-unfolding writing
 returns-3 c =
     let w = c .before .before .before in
     let o = opening-of w in

@@ -14,6 +14,7 @@ use Rattle.messages.specs.declared.kinds.Behind.the-variants.{NumberTo as numbe
 use Rattle.messages.specs.declared.kinds.Dump.{Dump}
 use Rattle.messages.specs.declared.kinds.Kind.the-variants.{Dump as ofDump}
 use Rattle.messages.specs.Judge.{misnumbered, numberIn}
+use Rattle.messages.proofs.Filed.{is-sized}
 use Rattle.judging.proofs.Verdicts.{Judging, kind-length, kind-stopped, kind-done, contentRows, of-dump}
 use Rattle.judging.proofs.dumps.judge_dump.Statement.{statement}
 use Rattle.judging.proofs.dumps.judge_dump.Tie as tie
@@ -21,7 +22,7 @@ use Rattle.judging.proofs.dumps.judge_dump.Tie as tie
 returns : tie.Need-returns
 returns c =
     let start = c .before .before .before .before in
-    c .refused-by .ensures ∙ kind-length (of-dump (start .args .kind) (start .pre) (start .args .content .now)) (c .before .if1 .taken)
+    c .refused-by .ensures ∙ kind-length (of-dump (start .args .kind) (is-sized (ofDump (start .args .kind)) (start .pre)) (start .args .content .now)) (c .before .if1 .taken)
 
 abbrev kind : tie.After-wrong-number → Dump
 kind t = t .before .before .before .before .before .args .kind
@@ -32,10 +33,12 @@ content t = t .before .before .before .before .before .args .content .now
 -- What the rows of the description come to.
 abbrev rows : (t : tie.After-wrong-number)
     → Judging (ofDump (kind t)) (content t) (contentRows (kind t) (content t)) (four (numberIn (kind t .behind) (getD (content t) 3 0)))
-rows t = of-dump (kind t) (t .before .before .before .before .before .pre) (content t)
+rows t = of-dump (kind t) (is-sized (ofDump (kind t)) (t .before .before .before .before .before .pre)) (content t)
 
 number-there : tie.Need-shared-slice-read-number
-number-there c = omega (arith, c .before .before .before .before .pre .0, c .before .if1 .left)
+number-there c =
+    let start = c .before .before .before .before in
+    omega (arith, is-sized (ofDump (start .args .kind)) (start .pre) .0, c .before .if1 .left)
 
 returns-2 : tie.Need-returns-2
 returns-2 c =
@@ -48,7 +51,8 @@ long-enough : tie.Need-check-packed-requires
 long-enough c κs =
     let t = c .before .before .before in
     let start = t .before .before .before in
-    (omega (arith, start .pre .0, t .if1 .left), start .pre .1)
+    let sized = is-sized (ofDump (start .args .kind)) (start .pre) in
+    (omega (arith, sized .0, t .if1 .left), sized .1)
 
 -- The byte behind the opcode has passed: what the data and the packed bytes are answered is what the rows are.
 answered : (p : tie.After-check-packed) → p .check-packed .result ≡ tested (contentRows (kind (p .before .before)) (content (p .before .before)))

@@ -13,6 +13,7 @@ use Rattle.messages.specs.declared.kinds.Kind.the-variants.{Short as ofShort}
 use Rattle.messages.specs.declared.kinds.Short.{Short}
 use Rattle.messages.specs.Kinds.{countOf}
 use Rattle.messages.specs.Judge.{operandRows}
+use Rattle.messages.proofs.Filed.{is-sized}
 use Rattle.judging.proofs.Verdicts.{Judging, kind-length, kind-stopped, kind-done, of-short}
 use Rattle.judging.proofs.shorts.judge_short.Statement.{statement}
 use Rattle.judging.proofs.shorts.judge_short.Tie as tie
@@ -20,7 +21,7 @@ use Rattle.judging.proofs.shorts.judge_short.Tie as tie
 returns : tie.Need-returns
 returns c =
     let start = c .before .before .before .before in
-    c .refused-by .ensures ∙ kind-length (of-short (start .args .kind) (start .pre) (start .args .content .now)) (c .before .if1 .taken)
+    c .refused-by .ensures ∙ kind-length (of-short (start .args .kind) (is-sized (ofShort (start .args .kind)) (start .pre)) (start .args .content .now)) (c .before .if1 .taken)
 
 abbrev kind : tie.After-test-operands → Short
 kind t = t .before .before .before .before .before .args .kind
@@ -31,13 +32,13 @@ content t = t .before .before .before .before .before .args .content .now
 -- What the rows of the description come to.
 abbrev rows : (t : tie.After-test-operands)
     → Judging (ofShort (kind t)) (content t) (operandRows (kind t .operands) (drop 3 (content t))) (four (drop 3 (content t)))
-rows t = of-short (kind t) (t .before .before .before .before .before .pre) (content t)
+rows t = of-short (kind t) (is-sized (ofShort (kind t)) (t .before .before .before .before .before .pre)) (content t)
 
 -- The length is right, so the count is: what the bytes are answered is what the rows are.
 answered : (t : tie.After-test-operands) → t .test-operands .result ≡ tested (operandRows (kind t .operands) (drop 3 (content t)))
 answered t =
     let count : length (drop 3 (content t)) ≡ countOf (kind t .operands) =
-    omega (arith, length-drop 3 (content t), t .before .before .if1 .left, t .before .before .before .before .before .pre .0) in
+    omega (arith, length-drop 3 (content t), t .before .before .if1 .left, is-sized (ofShort (kind t)) (t .before .before .before .before .before .pre) .0) in
     rw (to-end 3 (content t), eq-eqb (length (drop 3 (content t))) (countOf (kind t .operands)) count) at (t .test-operands .ensures)
 
 returns-2 : tie.Need-returns-2
@@ -59,9 +60,9 @@ judge-short-spec =
     (λ c. search needs)
     (λ c κs. search needs)
     returns
-    (λ c. omega (arith, c .before .before .before .pre .0))
-    (λ c. omega (arith, c .before .before .before .pre .0))
-    (λ c. omega (arith, c .before .before .before .pre .0))
+    (λ c. let start = c .before .before .before in omega (arith, is-sized (ofShort (start .args .kind)) (start .pre) .0))
+    (λ c. let start = c .before .before .before in omega (arith, is-sized (ofShort (start .args .kind)) (start .pre) .0))
+    (λ c. let start = c .before .before .before in omega (arith, is-sized (ofShort (start .args .kind)) (start .pre) .0))
     (λ c κs. search needs)
     (λ c κs. search needs)
     returns-2
