@@ -17,7 +17,8 @@ use Rattle.ranges.proofs.Runs.{three}
 use Rattle.fields.specs.Fields.{fields, inRange, placeOf}
 use Rattle.patch.specs.Patch.{halfUsed, patchRows}
 use Rattle.fields.proofs.Buses.{bus-range}
-use Rattle.edits.specs.Edits.{extended, storedFor, outAt, valueRows, editRows, byteRows, busRows, withByte, applying}
+use Rattle.edits.specs.Edits.{extended, storedFor, outAt, editRows, byteRows, busRows, withByte, applying}
+use Rattle.edits.specs.code.Value.{valueRows}
 
 -- The rows of a remote edit whose parameter has a place are the tests of its value there.
 pub rows-at : (n v k : ℕ) → placeOf n ≡ some k → editRows n v ≡ valueRows k n v

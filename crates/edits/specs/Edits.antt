@@ -29,10 +29,6 @@ abbrev pub outAt : Option ℕ → ℕ → Option ℕ
 outAt none b = none
 outAt (some k) b = cond (inRange k b) none (some k)
 
--- The tests of the value of a 06H edit whose field stands at place k: 8, then 11.
-unfoldable pub valueRows : ℕ → ℕ → ℕ → List Row
-valueRows k parameter v = row 8 (ltb 127 v) ∷ rowAt 11 (outAt (some k) (storedFor parameter v)) ∷ []
-
 -- The tests of a 06H edit: 8, then 11.
 unfoldable pub editRows : ℕ → ℕ → List Row
 editRows parameter v =

@@ -19,7 +19,8 @@ use ranges::lies_between;
 ghost use mathlib.Core.Path.{_≡_};
 ghost use Prim.Native.Nat.{_≤_};
 ghost use Rattle.answers.specs.Effect.{Gives, tested};
-ghost use Rattle.edits.specs.Edits.{extended, storedFor, valueRows, editRows, byteRows, busRows, applying, applyingBus};
+ghost use Rattle.edits.specs.Edits.{extended, storedFor, editRows, byteRows, busRows, applying, applyingBus};
+ghost use Rattle.edits.specs.code.Value.{valueRows};
 
 const LAST_BUS: u8 = BUSES as u8 - 1;
 

@@ -14,7 +14,7 @@ use Rattle.ranges.proofs.Below.{parts, holds, each, at}
 use Rattle.ranges.proofs.Between.{Lies, plain, positive, negative, lies, narrow-apart}
 use Rattle.ranges.proofs.Runs.{narrow-row}
 use Rattle.ranges.proofs.Rule.{right, rule}
-use Rattle.fields.specs.Fields.{fields, placeAt, parameterAt, leastAt, greatestAt, inRange, searchFrom, placeOf, parameterOf}
+use Rattle.fields.specs.Fields.{fields, parameterAt, leastAt, greatestAt, inRange, searchFrom, placeOf, parameterOf}
 use Rattle.fields.specs.promises.Rule.{unused}
 
 pub rows : length fields ≡ 134

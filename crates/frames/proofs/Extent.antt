@@ -11,7 +11,8 @@ use lib.Dec.{eqb}
 use lib.ListN.{length, getD, drop, drop-of-length-le}
 use lib.Seq.{drop-cons}
 use borrow.Author.Tests.{eq-eqb, ne-eqb}
-use Rattle.frames.specs.Bytes.{dataByte, realTime, ends, body, realTimeIn}
+use Rattle.frames.specs.Bytes.{dataByte, realTime, ends, body}
+use Rattle.frames.specs.code.Extent.{realTimeIn}
 use Rattle.frames.specs.code.Extent.{ahead, startAt}
 use Rattle.frames.proofs.Bytes.{kind-is, stays, ends-there, body-on, body-stop}
 

@@ -9,7 +9,8 @@ use native.Mathlib.Numerals.{add-one}
 use lib.ListN.{length, getD, take, drop, set, length-append, drop-of-length-le}
 use lib.Seq.{take-suc, take-all, take-append-le, take-append-seam}
 use Rattle.answers.proofs.Lists.{put-next}
-use Rattle.frames.specs.Bytes.{realTime, byteKind, isRealTime, withoutRealTime, realTimeIn}
+use Rattle.frames.specs.Bytes.{realTime, byteKind, isRealTime, withoutRealTime}
+use Rattle.frames.specs.code.Extent.{realTimeIn}
 use Rattle.frames.specs.code.Extent.{Kept}
 use Rattle.frames.proofs.Bytes.{kind-is, stays}
 

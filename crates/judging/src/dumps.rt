@@ -23,9 +23,11 @@ ghost use Rattle.answers.specs.Effect.{tested};
 ghost use Rattle.fields.specs.Fields.{size};
 ghost use Rattle.frames.specs.Bytes.{framed};
 ghost use Rattle.messages.specs.declared.kinds.Kind.the-variants.{Dump as ofDump};
-ghost use Rattle.messages.specs.declared.kinds.Packed.the-variants.{Patch as aPatch, AnyBytes as anyBytes};
-ghost use Rattle.messages.specs.Kinds.{sizeOf, master, sized};
-ghost use Rattle.messages.specs.Judge.{sentRows, lentRows, misnumbered, numberIn};
+ghost use Rattle.messages.specs.declared.kinds.Packed.the-variants.{Patch as aPatch};
+ghost use Rattle.messages.specs.Kinds.{sizeOf, master};
+ghost use Rattle.messages.specs.code.Sizes.{sized};
+ghost use Rattle.messages.specs.Judge.{sentRows, misnumbered, numberIn};
+ghost use Rattle.messages.specs.code.Sizes.{lentRows};
 ghost use Rattle.judging.specs.code.Judged.{kindVerdict, judged, Checked, sentIn, sumIn};
 
 // Where the data bytes of a patch dump end in its content, and its sum stands.
@@ -47,23 +49,13 @@ fn check_data(sent: &[u8], sum: u8, packed: &mut [u8]) -> Outcome
     answers::done(0)
 }
 
-// So many bytes of any value: 7 for another count of them.
-fn test_count(count: usize, bytes: &[u8]) -> Outcome
-    ensures { λ r. ⌜ r ≡ tested (lentRows (anyBytes count) (now (bytes .entry))) ⌝ }
-{
-    if bytes.len() != count {
-        return answers::refused(WRONG_LENGTH, 0);
-    }
-    answers::done(0)
-}
-
 // The tests of packed bytes themselves: 7 for another count of them, then their own 11 and 12.
 pub fn test_packed(packed: Packed, bytes: &[u8]) -> Outcome
     ensures { λ r. ⌜ r ≡ tested (lentRows packed (now (bytes .entry))) ⌝ }
 {
     match packed {
         Packed::Patch => patch::test(bytes),
-        Packed::AnyBytes(count) => test_count(count, bytes),
+        Packed::AnyBytes(count) => ranges::test(count, &[], bytes),
     }
 }
 

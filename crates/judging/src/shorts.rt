@@ -17,7 +17,7 @@ ghost use Rattle.answers.specs.Effect.{tested};
 ghost use Rattle.answers.specs.Table.{four};
 ghost use Rattle.frames.specs.Bytes.{framed};
 ghost use Rattle.messages.specs.declared.kinds.Kind.the-variants.{Short as ofShort};
-ghost use Rattle.messages.specs.Kinds.{sized};
+ghost use Rattle.messages.specs.code.Sizes.{sized};
 ghost use Rattle.messages.specs.Judge.{lentOperandRows};
 ghost use Rattle.judging.specs.code.Judged.{kindVerdict, judged};
 

@@ -11,7 +11,8 @@ use Rattle.answers.proofs.Rows.{first-passed, zero-silent, row-silent, row-at-s
 use Rattle.answers.specs.promises.Decides.{Silent}
 use Rattle.frames.specs.Bytes.{framed}
 use Rattle.nibbles.specs.Nibbles.{pack, firstWide, wideFrom}
-use Rattle.messages.specs.Kinds.{Kind, ofDump, ofShort, unknown, kindOf, Filed, sizeOf, packedSize, lengthOf, isUnknown, countOf}
+use Rattle.messages.specs.Kinds.{Kind, ofDump, ofShort, unknown, kindOf, Filed, sizeOf, lengthOf, isUnknown, countOf}
+use Rattle.messages.specs.code.Sizes.{packedSize}
 use Rattle.messages.specs.Judge.{byteAt, dataOf, packedOf, dataRows, numberIn, bytesFrom, kindRows, messageRows, recordOf, judge}
 use Rattle.messages.proofs.Filed.{found-filed, filed-sized}
 use Rattle.messages.proofs.Numbers.{message-refusals}

@@ -16,7 +16,8 @@ use Rattle.nibbles.specs.Nibbles.{nibbles, pack, sum}
 use Rattle.nibbles.proofs.Laws.{length-pack, nibbles-pack}
 use Rattle.messages.specs.Kinds.{Dump, Short, Kind, ofDump, ofShort, unknown, opcodeOf, kindOf, Filed, lengthOf, isUnknown, countOf}
 use Rattle.messages.specs.Judge.{numberIn, dumpRows, messageRows, kindRows, recordOf, judge}
-use Rattle.messages.specs.Layout.{messageOf, dump, message, recordFor, Given, givenRows}
+use Rattle.messages.specs.Layout.{messageOf, dump, message, recordFor, givenRows}
+use Rattle.messages.specs.promises.Given.{Given}
 use Rattle.messages.proofs.Filed.{found-opcode, found-filed, filed-sized}
 use Rattle.messages.proofs.Content.{framed-bytes}
 use Rattle.messages.proofs.Numbers.{done-head}

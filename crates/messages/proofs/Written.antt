@@ -17,7 +17,7 @@ use Rattle.answers.specs.promises.Decides.{Silent}
 use Rattle.frames.specs.Bytes.{framed}
 use Rattle.nibbles.specs.Nibbles.{nibbles, sum}
 use Rattle.nibbles.proofs.Laws.{nibbles-narrow, sum-below}
-use Rattle.ranges.specs.Ranges.{Table}
+use Rattle.ranges.specs.Ranges.{Table, outBy}
 use Rattle.ranges.proofs.Runs.{one-in, run-bytes}
 use Rattle.fields.specs.Fields.{fields, placeOf}
 use Rattle.fields.proofs.Rules.{found-place, parameter-number}
@@ -26,8 +26,9 @@ use Rattle.edits.specs.Edits.{extended, editRows, busRows}
 use Rattle.edits.proofs.Tests.{rows-at, rows-nowhere, value-small, bus-number, bus-amount, bus-bytes}
 use Rattle.messages.specs.Kinds.{Behind, numberTo, always, Operands, anEdit, aBusEdit, Short}
 use Rattle.messages.specs.Kinds.{Kind, ofDump, ofShort, unknown, countOf, shapeOf, sizeOf, opcodeOf, Filed}
-use Rattle.messages.specs.Judge.{misnumbered, numberIn, outBy, operandRows, bytesFrom, judge}
-use Rattle.messages.specs.Layout.{messageOf, dump, behindFor, message, recordFor, Numbered, Given, AllBytes, BytesIn, givenRows}
+use Rattle.messages.specs.Judge.{misnumbered, numberIn, operandRows, bytesFrom, judge}
+use Rattle.messages.specs.Layout.{messageOf, dump, behindFor, message, recordFor, givenRows}
+use Rattle.messages.specs.promises.Given.{Numbered, Given, AllBytes, BytesIn}
 use Rattle.messages.proofs.Filed.{every-kind, filed-sized}
 use Rattle.messages.proofs.Content.{bytes-at, framed-bytes}
 use Rattle.messages.proofs.DumpLaws.{dump-accepted}

@@ -1,13 +1,12 @@
 -- Document 01's table for a complete message without its real-time bytes: what it comes to.
 use mathlib.Core.Bool.{Bool, not}
 use mathlib.Core.List.{List, [], _∷_, _++_}
-use mathlib.Core.Option.{Option, none, some}
 use Prim.Native.Nat.{ℕ, zero, suc, _+_, _*_}
 use lib.Dec.{eqb, ltb}
 use lib.ListN.{length, take, drop, getD}
 use Rattle.answers.specs.Table.{Row, row, rowAt, Verdict, done, first}
 use Rattle.nibbles.specs.Nibbles.{pack, sum, firstWide}
-use Rattle.ranges.specs.Ranges.{Table, outFrom}
+use Rattle.ranges.specs.Ranges.{outBy}
 use Rattle.patch.specs.Patch.{halfFrom}
 use Rattle.edits.specs.Edits.{editRows, busRows}
 use Rattle.messages.specs.Kinds.{Behind, numberTo, always, Packed, Dump, Operands, anEdit, aBusEdit}
@@ -41,11 +40,6 @@ abbrev pub numberIn : Behind → ℕ → List ℕ
 numberIn (numberTo greatest) n = n ∷ []
 numberIn (always byte) n = []
 
--- The lowest place out of range, where the bytes have a table.
-abbrev pub outBy : Option Table → List ℕ → Option ℕ
-outBy none p = none
-outBy (some t) p = outFrom t 0 p
-
 -- The tests of a dump's packed bytes: 11 by their table, 12 by their buses.
 abbrev pub packedRows : Packed → List ℕ → List Row
 packedRows q p = rowAt 11 (outBy (shapeOf q .table) p) ∷ rowAt 12 (halfFrom (shapeOf q .buses) 0 p) ∷ []
@@ -63,10 +57,7 @@ abbrev pub operandRows : Operands → List ℕ → List Row
 operandRows anEdit b = editRows (getD b 0 0) (getD b 1 0)
 operandRows aBusEdit b = busRows (getD b 0 0) (getD b 1 0) (getD b 2 0) (getD b 3 0)
 
--- The same of packed bytes and of a short message's bytes as they are lent to a routine: another count of them is 7.
-abbrev pub lentRows : Packed → List ℕ → List Row
-lentRows q p = row 7 (not (eqb (length p) (sizeOf q))) ∷ packedRows q p
-
+-- The same of a short message's bytes as they are lent to a routine: another count of them is 7.
 abbrev pub lentOperandRows : Operands → List ℕ → List Row
 lentOperandRows o b = row 7 (not (eqb (length b) (countOf o))) ∷ operandRows o b
 

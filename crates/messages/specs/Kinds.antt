@@ -1,10 +1,10 @@
 -- The kinds of message that the desk files. What a kind is stands here, once; its length, tests, record and layout are computed from it.
 use mathlib.Core.Path.{_≡_}
-use mathlib.Core.Bool.{Bool, true, false, cond, _&&_}
+use mathlib.Core.Bool.{Bool, true, false, cond}
 use mathlib.Core.List.{List, [], _∷_}
 use mathlib.Core.Option.{Option, none, some}
 use Prim.Native.Nat.{ℕ, _+_, _*_}
-use lib.Dec.{eqb, leb}
+use lib.Dec.{eqb}
 use Rattle.ranges.specs.Ranges.{Table}
 use Rattle.fields.specs.Fields.{size, fields}
 use Rattle.patch.specs.Patch.{buses}
@@ -95,15 +95,3 @@ abbrev pub lengthOf : Kind → ℕ
 lengthOf (ofDump k) = k .length
 lengthOf (ofShort k) = k .length
 lengthOf unknown = 0
-
--- The packed bytes of a kind: none where it is no dump.
-abbrev pub packedSize : Kind → ℕ
-packedSize (ofDump k) = sizeOf (k .packed)
-packedSize (ofShort k) = 0
-packedSize unknown = 0
-
--- A kind's length is what its parts add up to, and it fits the room that the code has for it: as many packed bytes as a master has, four bytes with the answer.
-abbrev pub sized : Kind → Bool
-sized (ofDump k) = eqb (k .length) (7 + 2 * sizeOf (k .packed)) && leb (sizeOf (k .packed)) master
-sized (ofShort k) = eqb (k .length) (5 + countOf (k .operands)) && leb (countOf (k .operands)) 4
-sized unknown = true

@@ -1,17 +1,13 @@
 -- The messages as our writer writes them, from what it is given: no real time inside.
-use mathlib.Core.Path.{_≡_}
 use mathlib.Core.Bool.{not}
 use mathlib.Core.List.{List, [], _∷_, _++_}
-use mathlib.Core.Option.{Option, none, some}
-use Prim.Native.Nat.{ℕ, _<_}
+use Prim.Native.Nat.{ℕ}
 use lib.Dec.{eqb}
 use lib.ListN.{length, getD}
 use Rattle.answers.specs.Table.{Row, row, Verdict, done}
-use Rattle.ranges.specs.Ranges.{Table}
 use Rattle.frames.specs.Bytes.{framed}
 use Rattle.nibbles.specs.Nibbles.{nibbles, sum}
-use Rattle.answers.specs.Lists.{All}
-use Rattle.messages.specs.Kinds.{Behind, numberTo, always, Dump, Kind, ofDump, ofShort, unknown, opcodeOf, shapeOf, sizeOf}
+use Rattle.messages.specs.Kinds.{Behind, numberTo, always, Dump, Kind, ofDump, ofShort, unknown, opcodeOf, sizeOf}
 use Rattle.messages.specs.Judge.{misnumbered, packedRows, lentOperandRows}
 
 -- F0H 10H 06H, the opcode, its bytes, F7H.
@@ -36,26 +32,6 @@ message unknown b p = []
 -- Its record.
 abbrev pub recordFor : Kind → List ℕ → List ℕ → Verdict
 recordFor k b p = done (opcodeOf k) b p
-
--- What a writer can be given: one number for a kind that has numbers, none for another dump; no packed bytes for a short message.
-abbrev pub Numbered : Behind → List ℕ → Type 0
-Numbered (numberTo greatest) b = length b ≡ 1
-Numbered (always byte) b = b ≡ []
-
-abbrev pub Given : Kind → List ℕ → List ℕ → Type 0
-Given (ofDump k) b p = Numbered (k .behind) b
-Given (ofShort k) b p = p ≡ []
-Given unknown b p = ⊥
-
--- Packed bytes without a table are bytes, and no test says so.
-abbrev pub AllBytes : Option Table → List ℕ → Type 0
-AllBytes none p = All (λ b. b < 256) p
-AllBytes (some t) p = Unit {0}
-
-abbrev pub BytesIn : Kind → List ℕ → Type 0
-BytesIn (ofDump k) p = AllBytes (shapeOf (k .packed) .table) p
-BytesIn (ofShort k) p = Unit {0}
-BytesIn unknown p = Unit {0}
 
 -- What the writer of a dump tests of the byte behind its opcode and of its packed bytes: 7, 8, then their own 11 and 12.
 abbrev pub dumpGiven : Dump → ℕ → List ℕ → List Row

@@ -1,6 +1,7 @@
 // The kinds of message that the desk files: opcode and length of each, what it is made of, and which kind an opcode finds.
 ghost use mathlib.Core.Path.{_≡_};
-ghost use Rattle.messages.specs.Kinds.{kindOf, sizeOf, countOf, packedSize};
+ghost use Rattle.messages.specs.Kinds.{kindOf, sizeOf, countOf};
+ghost use Rattle.messages.specs.code.Sizes.{packedSize};
 
 // Every message of ours has these behind its F0H.
 pub const MAKER: u8 = 0x10;

@@ -2,11 +2,10 @@
 use mathlib.Core.Path.{_≡_}
 use mathlib.Core.List.{List, _∷_, _++_}
 use mathlib.Core.Option.{none}
-use Prim.Native.Nat.{ℕ, _+_, _<_}
+use Prim.Native.Nat.{ℕ, _+_}
 use native.Mathlib.Omega.{arith}
 use lib.ListN.{length}
-use Rattle.answers.specs.Lists.{All}
-use Rattle.ranges.proofs.Runs.{run-bytes, runs-apart}
+use Rattle.ranges.proofs.Runs.{runs-apart}
 use Rattle.fields.specs.Fields.{fields}
 use Rattle.fields.proofs.Rules.{rows, all-narrow}
 use Rattle.patch.specs.Patch.{firstOut}

@@ -1,12 +1,12 @@
 -- The rule of a table: one test, computed over its rows, and what it says at each. A range that is stored from the least byte up, or through
 -- 255 to 0, is one from the least value to the greatest: in a signed field the least byte is 80H or above and the greatest below.
-use mathlib.Core.Path.{_≡_, refl, ap, _∙_}
-use mathlib.Core.Bool.{Bool, true, false, cond, _&&_, _||_}
-use mathlib.Core.List.{List, []}
+use mathlib.Core.Path.{_≡_, refl, ap}
+use mathlib.Core.Bool.{Bool, true, false, cond, _&&_}
+use mathlib.Core.List.{[]}
 use Prim.Native.Nat.{ℕ, _+_, _-_, _*_, _≤_, _<_}
 use native.Mathlib.Omega.{arith}
 use lib.Dec.{T, eqb, leb, ltb, eqb→eq, leb→le, ltb→lt}
-use lib.ListN.{length, getD, List·getD-eq-default}
+use lib.ListN.{length, List·getD-eq-default}
 use borrow.Author.Tests.{lt-ltb, le-ltb, le-leb, lt-leb, ltb-true, ltb-false}
 use Rattle.ranges.specs.Ranges.{Table, placeIn, leastIn, greatestIn, between, inRow}
 use Rattle.ranges.specs.Values.{Value, plus, minus, valueOf, signedIn, valueIn, atMost, fromTo}

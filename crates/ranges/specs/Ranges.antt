@@ -42,6 +42,11 @@ unfoldable pub outFrom : Table → ℕ → List ℕ → Option ℕ
 outFrom t k [] = none
 outFrom t k (b ∷ p) = cond (inRow t k b) (outFrom t (suc k) p) (some k)
 
--- The tests of bytes that have a table: 7 for another count of them than it has rows, then 11.
-abbrev pub tableRows : Table → List ℕ → List Row
-tableRows t p = row 7 (not (eqb (length p) (length t))) ∷ rowAt 11 (outFrom t 0 p) ∷ []
+-- The same of bytes that may have a table.
+abbrev pub outBy : Option Table → List ℕ → Option ℕ
+outBy none p = none
+outBy (some t) p = outFrom t 0 p
+
+-- The tests of n bytes: 7 for another count of them, then 11 by their table.
+abbrev pub countedRows : ℕ → Option Table → List ℕ → List Row
+countedRows n t p = row 7 (not (eqb (length p) n)) ∷ rowAt 11 (outBy t p) ∷ []

@@ -4,8 +4,8 @@ use answers::Outcome;
 use answers::WRONG_LENGTH;
 ghost use mathlib.Core.Path.{_≡_};
 ghost use Rattle.answers.specs.Effect.{tested};
-ghost use Rattle.ranges.specs.Ranges.{between, inRow, outFrom, tableRows};
-ghost use Rattle.ranges.specs.code.Found.{foundAt};
+ghost use Rattle.ranges.specs.Ranges.{between, inRow, outFrom, countedRows};
+ghost use Rattle.ranges.specs.code.Found.{foundAt, lentTable};
 
 // The lowest place at which a test fails.
 pub enum Failed {
@@ -55,12 +55,16 @@ pub fn first_out(table: &[[u8; 4]], bytes: &[u8]) -> Failed
     Failed::Nowhere
 }
 
-// The test of bytes by their table: 7 for another count of them than it has rows, then 11 with the lowest place; done with detail 0.
-pub fn test(table: &[[u8; 4]], bytes: &[u8]) -> Outcome
-    ensures { λ r. ⌜ r ≡ tested (tableRows (now (table .entry)) (now (bytes .entry))) ⌝ }
+// The test of so many bytes by the table of their ranges, where a table without rows is none: 7 for another count of them, then 11
+// with the lowest place out of range; done with detail 0.
+pub fn test(count: usize, table: &[[u8; 4]], bytes: &[u8]) -> Outcome
+    ensures { λ r. ⌜ r ≡ tested (countedRows count (lentTable (now (table .entry))) (now (bytes .entry))) ⌝ }
 {
-    if bytes.len() != table.len() {
+    if bytes.len() != count {
         return answers::refused(WRONG_LENGTH, 0);
+    }
+    if table.len() == 0 {
+        return answers::done(0);
     }
     let out = first_out(table, bytes);
     match out {

@@ -12,7 +12,6 @@ use Rattle.answers.specs.declared.Outcome.{Outcome}
 use Rattle.frames.specs.Bytes.{framed}
 use Rattle.nibbles.specs.Nibbles.{pack, packing}
 use Rattle.nibbles.proofs.Laws.{length-pack, packing-done}
-use Rattle.messages.specs.Kinds.{kindOf, packedSize}
 use Rattle.messages.specs.Judge.{judge}
 use Rattle.judging.specs.code.Judged.{judged}
 use Rattle.judging.specs.declared.Judged.{Judged}

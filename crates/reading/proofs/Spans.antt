@@ -7,7 +7,8 @@ use lib.ListN.{length, take, drop, length-drop}
 use lib.Seq.{length-take-le}
 use Rattle.answers.specs.Table.{outcome, four}
 use Rattle.answers.specs.Effect.{Gives}
-use Rattle.frames.specs.Bytes.{body, withoutRealTime, realTimeIn, framed}
+use Rattle.frames.specs.Bytes.{body, withoutRealTime, framed}
+use Rattle.frames.specs.code.Extent.{realTimeIn}
 use Rattle.frames.specs.code.Extent.{spanOf, endingOf}
 use Rattle.frames.specs.Stream.{messageAt}
 use Rattle.frames.specs.declared.Span.{Span}

@@ -13,9 +13,8 @@ use lib.ListN.{length, take, drop, length-map, length-set, drop-of-length-le}
 use lib.Seq.{drop-at, drop-append-seam, drop-drop}
 use borrow.Author.Tests.{eqb-true, leb-true, leb-false, le-ltb, lt-ltb}
 use Rattle.answers.specs.declared.Outcome.{Outcome}
-use Rattle.answers.specs.Lists.{All}
 use Rattle.answers.specs.Table.{Row, row, says, Verdict, done, refused, first, outcome, outcomeOf, four}
-use Rattle.answers.specs.Effect.{Effect, tested, changed, written}
+use Rattle.answers.specs.Effect.{Effect, tested}
 use Rattle.answers.proofs.Lists.{all-append, all-weaken}
 use Rattle.answers.proofs.Rows.{Refusals, numberOf, Heard, nothing, something, heard, first-append, first-passed}
 use Rattle.answers.proofs.Rows.{passed-over, done-passed, given-first, first-given, row-equal, first-number, tested-passed, decides}
@@ -33,13 +32,13 @@ use Rattle.edits.specs.Edits.{editRows, busRows, withByte, withBus, storedFor, 
 use Rattle.edits.proofs.Tests.{edit-refusals, bus-refusals}
 use Rattle.fields.specs.Fields.{placeOf}
 use Rattle.messages.specs.Kinds.{kindOf}
-use Rattle.messages.specs.Judge.{byteAt, messageRows, judge}
+use Rattle.messages.specs.Judge.{byteAt, judge}
 use Rattle.messages.specs.Layout.{message, givenRows}
 use Rattle.messages.proofs.Numbers.{IsDone, made, record-done, message-refusals, given-refusals}
 use Rattle.reading.specs.code.Told.{reportOr, walked, reads}
 use Rattle.writing.specs.declared.BankOutcome.{BankOutcome}
-use Rattle.writing.specs.Writing.{writing, writingBank, bankBytes, firstBad, orLater, unlessBad}
-use Rattle.theorems.specs.Answers.{fromStart, isEmpty, found, complete, recordIn, opcodeIn, walkRows, thenRoom}
+use Rattle.writing.specs.Writing.{writingBank, bankBytes, firstBad, orLater, unlessBad}
+use Rattle.theorems.specs.Answers.{fromStart, found, complete, recordIn, opcodeIn, walkRows, thenRoom}
 use Rattle.theorems.specs.Answers.{Answered, patchesRows, bankTable, patchAt, PlaceOf, refused-patch, no-patch, Demand1}
 
 -- The walk finds nothing, and the first row says so; or it finds a message, and its verdict is that of the rows.

@@ -15,7 +15,7 @@ use lib.Seq.{take-append-seam, drop-drop}
 use borrow.Author.Tests.{eq-eqb, eqb-true, le-ltb, lt-ltb, ltb-false, le-leb, lt-leb}
 use Rattle.answers.specs.Lists.{All}
 use Rattle.answers.specs.Table.{Verdict, done, refused, first}
-use Rattle.answers.specs.Effect.{toldAs, written}
+use Rattle.answers.specs.Effect.{written}
 use Rattle.answers.proofs.Lists.{all-weaken}
 use Rattle.answers.proofs.Rows.{done-passed}
 use Rattle.answers.specs.promises.Decides.{Silent}
@@ -34,9 +34,10 @@ use Rattle.messages.specs.Judge.{judge}
 use Rattle.messages.specs.Layout.{dump, message, givenRows}
 use Rattle.messages.proofs.Written.{Sound, sound}
 use Rattle.writing.specs.declared.BankOutcome.{BankOutcome}
-use Rattle.writing.specs.Writing.{writingBank, bankFrom, firstBad, orLater, noPlace, bankTested, unlessBad}
+use Rattle.writing.specs.Writing.{writingBank, bankFrom, firstBad, orLater, unlessBad}
+use Rattle.writing.specs.code.Writers.{bankTested}
 use Rattle.writing.proofs.Laws.{length-patch, length-patch-dump, length-bank, bank-tested, none-bad}
-use Rattle.theorems.specs.Damage.{keep, startBefore, startFrom, stream, reportsBefore, reportsAfter}
+use Rattle.theorems.specs.Damage.{startBefore, startFrom, stream, reportsBefore, reportsAfter}
 use Rattle.theorems.specs.RoundTrips.{reportFor, bankReports, bankSent, BankReadBack}
 use Rattle.theorems.proofs.Writers.{sound-holds}
 use Rattle.theorems.proofs.Parts.{keep-all, keep-none}

@@ -10,7 +10,6 @@ use lib.ListN.{length, take, drop, getD, length-append}
 use lib.Seq.{append-snoc, split-at, length-take-le, take-at, drop-at, getD-at}
 use Rattle.answers.specs.Lists.{All}
 use Rattle.answers.specs.Table.{Verdict, done, answerOf, outcome}
-use Rattle.answers.specs.Effect.{tested}
 use Rattle.answers.proofs.Lists.{all-append, all-left, all-right, all-weaken}
 use Rattle.answers.proofs.Rows.{row-silent, row-equal}
 use Rattle.answers.proofs.Effects.{passed}

@@ -10,7 +10,7 @@ use lib.ListN.{length, take, drop, getD}
 use Rattle.answers.specs.declared.Outcome.{Outcome}
 use Rattle.answers.specs.Lists.{All}
 use Rattle.answers.specs.Table.{Row, row, Verdict, outcome, outcomeOf, four}
-use Rattle.answers.specs.Effect.{Effect, tested}
+use Rattle.answers.specs.Effect.{tested}
 use Rattle.answers.specs.promises.Decides.{Decides, Keeps}
 use Rattle.frames.specs.Bytes.{body, withoutRealTime, framed}
 use Rattle.frames.specs.Stream.{packedIn, reports}

@@ -15,7 +15,8 @@ use Rattle.messages.specs.declared.kinds.Kind.the-variants.{Dump as ofDump}
 use Rattle.messages.specs.declared.kinds.Packed.the-variants.{Patch as aPatch}
 use Rattle.messages.specs.Kinds.{Filed}
 use Rattle.messages.specs.Judge.{judge}
-use Rattle.messages.specs.Layout.{message, recordFor, Given, givenRows}
+use Rattle.messages.specs.Layout.{message, recordFor, givenRows}
+use Rattle.messages.specs.promises.Given.{Given}
 
 -- One byte replaced, lost, or one added in front of it.
 pub data Damage : Type 0 where

@@ -19,7 +19,8 @@ use Rattle.messages.specs.declared.kinds.Kind.{Kind}
 use Rattle.messages.specs.declared.kinds.Kind.the-variants.{Dump as ofDump}
 use Rattle.messages.specs.Kinds.{singlePatch, kinds, opcodeOf, Filed}
 use Rattle.messages.specs.Judge.{judge}
-use Rattle.messages.specs.Layout.{message, recordFor, Given, BytesIn}
+use Rattle.messages.specs.Layout.{message, recordFor}
+use Rattle.messages.specs.promises.Given.{Given, BytesIn}
 use Rattle.writing.specs.Writing.{writing, writingBank}
 use Rattle.theorems.specs.Damage.{stream, reportsBefore, reportsAfter}
 

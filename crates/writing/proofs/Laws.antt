@@ -19,7 +19,8 @@ use Rattle.patch.specs.Patch.{firstOut, firstHalf, fieldRows}
 use Rattle.patch.proofs.Tests.{field-refusals}
 use Rattle.messages.specs.Layout.{dump}
 use Rattle.writing.specs.declared.BankOutcome.{BankOutcome}
-use Rattle.writing.specs.Writing.{writingBank, bankFrom, firstBad, orLater, bankOutcome, noPlace, bankTested, unlessBad}
+use Rattle.writing.specs.Writing.{writingBank, bankFrom, firstBad, orLater, bankOutcome, noPlace, unlessBad}
+use Rattle.writing.specs.code.Writers.{bankTested}
 
 -- A dump has two nibbles to a byte, and seven bytes around them.
 pub length-dump : (o n : ℕ) (p : List ℕ) → length (dump o n p) ≡ 2 * length p + 7

@@ -11,18 +11,13 @@ use Rattle.answers.specs.Effect.{Effect, toldAs, written}
 use Rattle.fields.specs.Fields.{size}
 use Rattle.patch.specs.Patch.{fieldRows}
 use Rattle.messages.specs.declared.kinds.Kind.{Kind}
-use Rattle.messages.specs.declared.kinds.Dump.{Dump}
 use Rattle.messages.specs.Kinds.{singlePatch}
-use Rattle.messages.specs.Layout.{dump, message, dumpGiven, givenRows}
+use Rattle.messages.specs.Layout.{dump, message, givenRows}
 use Rattle.writing.specs.declared.BankOutcome.{BankOutcome}
 
 -- A message of a kind, from the bytes b that come with the answer and a dump's packed bytes p: its tests, then 13.
 abbrev pub writing : Kind → List ℕ → List ℕ → List ℕ → Effect Outcome
 writing k b p out = written (givenRows k b p) (message k b p) out
-
--- The same of a dump, by its description and the byte behind its opcode.
-abbrev pub writingDump : Dump → ℕ → List ℕ → List ℕ → Effect Outcome
-writingDump k n p out = written (dumpGiven k n p) (dump (k .opcode) n p) out
 
 -- n patches end to end as dumps, numbered from k.
 unfoldable pub bankFrom : ℕ → ℕ → List ℕ → List ℕ
@@ -48,11 +43,6 @@ orLater k (done o b p) later = later
 unfoldable pub firstBad : ℕ → ℕ → List ℕ → Option BankOutcome
 firstBad zero k ps = none
 firstBad (suc n) k ps = orLater k (first (fieldRows (take size ps)) (done 0 [] [])) (firstBad n (suc k) (drop size ps))
-
--- What the test of a bank's patches answers: the lowest bad one, or done with zeros.
-abbrev pub bankTested : Option BankOutcome → BankOutcome
-bankTested none = noPlace (outcome 0 0)
-bankTested (some b) = b
 
 -- The lowest bad patch refuses, else the bytes are written, or there is no room.
 abbrev pub unlessBad : Option BankOutcome → List ℕ → List ℕ → Effect BankOutcome

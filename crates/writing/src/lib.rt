@@ -30,9 +30,11 @@ ghost use Rattle.answers.specs.Effect.{Gives, tested, atStart};
 ghost use Rattle.fields.specs.Fields.{size};
 ghost use Rattle.nibbles.specs.Nibbles.{sum};
 ghost use Rattle.messages.specs.declared.kinds.Kind.the-variants.{Dump as ofDump, Short as ofShort};
-ghost use Rattle.messages.specs.Kinds.{singlePatch, masterParameters, editBuffer, remoteEdit, busEdit, sized};
+ghost use Rattle.messages.specs.Kinds.{singlePatch, masterParameters, editBuffer, remoteEdit, busEdit};
+ghost use Rattle.messages.specs.code.Sizes.{sized};
 ghost use Rattle.messages.specs.Layout.{dump, dumpGiven};
-ghost use Rattle.writing.specs.Writing.{writing, writingDump, writingBank, bankBytes, firstBad, bankTested, bankMost, noPlace};
+ghost use Rattle.writing.specs.Writing.{writing, writingBank, bankBytes, firstBad, bankMost, noPlace};
+ghost use Rattle.writing.specs.code.Writers.{writingDump, bankTested};
 
 // A bank has at most 100 patches.
 const BANK: usize = 100 * PATCH;

@@ -15,7 +15,8 @@ use Rattle.patch.specs.Patch.{patchRows}
 use Rattle.fields.proofs.Places.{found-there, found-nowhere}
 use Rattle.patch.proofs.Tests.{patch-refusals, patch-length}
 use Rattle.fields.proofs.Rules.{found-place}
-use Rattle.edits.specs.Edits.{storedFor, valueRows}
+use Rattle.edits.specs.Edits.{storedFor}
+use Rattle.edits.specs.code.Value.{valueRows}
 use Rattle.edits.proofs.Tests.{applying-at, applying-nowhere, value-refusals, value-small}
 use Rattle.edits.proofs.apply_edit.Statement.{statement}
 use Rattle.edits.proofs.apply_edit.Tie as tie

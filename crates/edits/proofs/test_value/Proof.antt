@@ -3,7 +3,8 @@ use mathlib.Core.Path.{_≡_, sym, ap, _∙_}
 use borrow.Author.Needs.{needs}
 use borrow.Author.Tests.{lt-ltb, le-ltb, not-true, not-false}
 use Rattle.fields.specs.Fields.{inRange}
-use Rattle.edits.specs.Edits.{storedFor, valueRows}
+use Rattle.edits.specs.Edits.{storedFor}
+use Rattle.edits.specs.code.Value.{valueRows}
 use Rattle.edits.proofs.test_value.Statement.{statement}
 use Rattle.edits.proofs.test_value.Tie as tie
 

@@ -5,7 +5,8 @@ use mathlib.Core.List.{List, []}
 use Prim.Native.Nat.{ℕ, _≤_, _+_, _-_}
 use native.Mathlib.Omega.{arith}
 use lib.ListN.{length, drop, getD, drop-of-length-le}
-use Rattle.frames.specs.Bytes.{body, realTimeIn}
+use Rattle.frames.specs.Bytes.{body}
+use Rattle.frames.specs.code.Extent.{realTimeIn}
 use Rattle.frames.specs.code.Extent.{spanOf, endingOf}
 use Rattle.frames.specs.declared.Span.{Span}
 use Rattle.frames.proofs.Extent.{split, body-data, body-real-time, body-ended, body-end, real-time-data, real-time-more, real-time-none}

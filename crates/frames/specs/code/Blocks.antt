@@ -3,8 +3,8 @@ use mathlib.Core.Path.{_≡_}
 use mathlib.Core.List.{List}
 use Prim.Native.Nat.{ℕ, _+_, _<_, _≤_}
 use lib.ListN.{length, drop, getD}
-use Rattle.frames.specs.Bytes.{body, realTimeIn}
-use Rattle.frames.specs.code.Extent.{ahead}
+use Rattle.frames.specs.Bytes.{body}
+use Rattle.frames.specs.code.Extent.{realTimeIn, ahead}
 
 -- None of the n bytes from index i on has a property.
 abbrev pub None : (ℕ → Type 0) → ℕ → ℕ → List ℕ → Type 0

@@ -3,7 +3,7 @@ use mathlib.Core.Path.{_∙_, sym, subst}
 use lib.Dec.{T}
 use borrow.Author.Needs.{needs}
 use Rattle.messages.specs.declared.kinds.Kind.{Kind}
-use Rattle.messages.specs.Kinds.{sized}
+use Rattle.messages.specs.code.Sizes.{sized}
 use Rattle.messages.proofs.Filed.{kind-sized}
 use Rattle.judging.specs.code.Judged.{kindVerdict}
 use Rattle.judging.proofs.judge_kind.Statement.{statement}

@@ -8,7 +8,8 @@ use Rattle.answers.specs.Table.{answerOf}
 use Rattle.answers.specs.promises.Decides.{Silent}
 use Rattle.messages.specs.Kinds.{anyBytes, Dump, ofDump, masterParameters, sizeOf, Filed}
 use Rattle.messages.specs.Judge.{byteAt, judge}
-use Rattle.messages.specs.Layout.{message, BytesIn, givenRows}
+use Rattle.messages.specs.Layout.{message, givenRows}
+use Rattle.messages.specs.promises.Given.{BytesIn}
 
 -- A message as our writer writes it, with another nibble y for the nibble x, number i of its data bytes: it is accepted exactly when x is a
 -- high nibble, which stands behind its low one, and moved by 8.

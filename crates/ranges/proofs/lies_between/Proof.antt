@@ -1,5 +1,5 @@
 -- Each answer is that of `between` under the tests that led to it.
-use Prim.Native.Nat.{ℕ, _<_}
+use Prim.Native.Nat.{_<_}
 use native.Mathlib.Omega.{arith}
 use borrow.Author.Tests.{lt-ltb, le-leb, lt-leb}
 use Rattle.ranges.specs.Ranges.{between}

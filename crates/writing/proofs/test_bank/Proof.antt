@@ -10,7 +10,8 @@ use Rattle.answers.specs.Effect.{tested}
 use Rattle.answers.specs.declared.Outcome.{Outcome}
 use Rattle.patch.specs.Patch.{fieldRows}
 use Rattle.patch.proofs.Tests.{fields-tested}
-use Rattle.writing.specs.Writing.{firstBad, bankOutcome, bankTested}
+use Rattle.writing.specs.Writing.{firstBad, bankOutcome}
+use Rattle.writing.specs.code.Writers.{bankTested}
 use Rattle.writing.proofs.Laws.{bad-here, bad-next}
 use Rattle.writing.proofs.test_bank.Statement.{statement}
 use Rattle.writing.proofs.test_bank.Tie as tie

@@ -5,7 +5,7 @@ use Prim.Native.Nat.{ℕ, _*_, _+_, _-_, _≤_, _<_}
 use native.Mathlib.Omega.{arith}
 use lib.ListN.{length}
 use borrow.Author.Needs.{needs}
-use Rattle.messages.specs.Kinds.{packedSize}
+use Rattle.messages.specs.code.Sizes.{packedSize}
 use Rattle.messages.proofs.Accepted.{Accepted}
 use Rattle.reading.proofs.Records.{read-refused, read-accepted, read-short, read-stored, packed-into, nothing-packed}
 use Rattle.reading.proofs.recording.read_content.Statement.{statement}
