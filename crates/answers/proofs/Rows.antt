@@ -3,7 +3,6 @@
 use mathlib.Core.Path.{_≡_, refl, ap, sym, _∙_, subst}
 use mathlib.Core.Bool.{Bool, true, false, not}
 use mathlib.Core.List.{List, [], _∷_, _++_, append-nil}
-use mathlib.Core.Logic.{_↔_}
 use mathlib.Core.Option.{Option, none, some}
 use Prim.Native.Nat.{ℕ}
 use native.Mathlib.Omega.{arith}
@@ -76,14 +75,6 @@ first-given (r ∷ rows) n b p o e = go (heard r) (first-given rows n b p o)
     go (something x q) i =
         let same : refused x ≡ refused o = rw q at e in
         record { before = []; here = r; after = rows; split = refl; silent = tt; said = cc }
-
--- Refused by o exactly when a row says o and none before it says anything.
-pub refused-exactly : (rows : List Row) (n : ℕ) (b p : List ℕ) (o : Outcome) → (first rows (done n b p) ≡ refused o) ↔ FirstSays rows o
-refused-exactly rows n b p o = (first-given rows n b p o, given-first rows (done n b p) o)
-
--- Done exactly when no row says anything.
-pub done-exactly : (rows : List Row) (o : ℕ) (b p : List ℕ) → (first rows (done o b p) ≡ done o b p) ↔ Silent rows
-done-exactly rows o b p = ((λ e. (done-passed rows (done o b p) o b p e) .0), first-passed rows (done o b p))
 
 -- What a row that says nothing tests does not hold.
 pub row-silent : (n : ℕ) (t : Bool) → says (row n t) ≡ none → t ≡ false

@@ -9,13 +9,13 @@ use native.Mathlib.Omega.{arith}
 use lib.Dec.{eqb, ltb}
 use lib.ListN.{length, getD, set, length-set}
 use lib.Seq.{getD-set-same, getD-set-other}
-use borrow.Author.Tests.{lt-ltb, le-ltb, le-leb, lt-leb, ltb-true, ltb-false, eqb-true, eqb-false, ne-eqb}
+use borrow.Author.Tests.{lt-ltb, le-ltb, le-leb, lt-leb, ltb-true, ltb-false, eqb-true, eqb-false}
 use Rattle.answers.specs.declared.Outcome.{Outcome}
 use Rattle.answers.specs.Table.{Row, done, first, outcome}
 use Rattle.answers.specs.Effect.{Effect, changed, tested}
 use Rattle.answers.proofs.Lists.{all-append}
 use Rattle.answers.proofs.Rows.{Refusals, numberOf, first-passed, done-passed, silent-parts}
-use Rattle.answers.proofs.Effects.{changed-kept, changed-silent}
+use Rattle.answers.proofs.Effects.{changed-silent}
 use Rattle.answers.specs.promises.Decides.{Silent}
 use Rattle.ranges.specs.Ranges.{between, inRow, outFrom}
 use Rattle.ranges.proofs.Runs.{one-in, out-set}
@@ -38,16 +38,6 @@ pub extended-high : (v : ℕ) → 64 ≤ v → extended v ≡ v + 128
 unfolding extended
 extended-high v h = simp (le-ltb v 64 h)
 
--- Parameter 21 stores a value as it is.
-pub stored-21 : (v : ℕ) → storedFor 21 v ≡ v
-unfolding storedFor
-stored-21 v = refl
-
--- Every other parameter stores it extended.
-pub stored-extended : (n v : ℕ) → (n ≡ 21 → ⊥) → storedFor n v ≡ extended v
-unfolding storedFor
-stored-extended n v h = simp (ne-eqb n 21 h)
-
 -- An extended amount always lies in the range of an amount: behind 8, the test for 14 never holds.
 pub amount-inside : (a : ℕ) → a ≤ 127 → inRange 105 (extended a) ≡ true
 unfolding inRow fields between
@@ -62,16 +52,6 @@ amount-inside a h = go (ltb a 64) refl
         let l = ltb-false a 64 q in
         let e = extended-high a l in
         rw e (simp (lt-ltb (a + 128) 256 (omega arith), le-leb 192 (a + 128) (omega arith)))
-
--- A remote edit that is answered otherwise than 0 leaves the patch as it was.
-pub edit-refused-keeps : (n v : ℕ) (p : List ℕ) → (applying n v p .result .answer ≡ 0 → ⊥) → applying n v p .lent ≡ p
-unfolding applying
-edit-refused-keeps n v p h = changed-kept 0 _ p (first (editRows n v ++ patchRows p) (done 0 [] [])) h
-
--- So does a matrix modulation edit.
-pub bus-refused-keeps : (b s a d : ℕ) (p : List ℕ) → (applyingBus b s a d p .result .answer ≡ 0 → ⊥) → applyingBus b s a d p .lent ≡ p
-unfolding applyingBus
-bus-refused-keeps b s a d p h = changed-kept 0 _ p (first (busRows b s a d ++ patchRows p) (done 0 [] [])) h
 
 -- Rows of refusals and the patch's behind them that change a patch with answer 0 come to `done`.
 answered-done : (rows : List Row) (new p : List ℕ) → Refusals rows → changed 0 new p (first (rows ++ patchRows p) (done 0 [] [])) .result .answer ≡ 0

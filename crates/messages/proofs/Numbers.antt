@@ -2,7 +2,7 @@
 -- The numbers are read off the rows; what `first` gives is done or has the number of one of its rows.
 use mathlib.Core.Path.{_≡_, refl}
 use mathlib.Core.List.{List}
-use Prim.Native.Nat.{ℕ, _≤_}
+use Prim.Native.Nat.{ℕ}
 use native.Mathlib.Omega.{arith}
 use Rattle.answers.specs.Lists.{All}
 use Rattle.answers.specs.Table.{Row, Verdict, done, refused, answerOf}
@@ -13,11 +13,8 @@ use Rattle.edits.specs.Edits.{editRows, busRows}
 use Rattle.answers.specs.declared.Outcome.{Outcome}
 use Rattle.messages.specs.Kinds.{Packed, Dump, Operands, anEdit, aBusEdit, Kind, ofDump, ofShort, unknown, countOf, kindOf, sizeOf}
 use Rattle.messages.specs.Judge.{byteAt, dataOf, dataRows, packedRows, operandRows, bytesFrom, kindRows, messageRows, recordOf, judge}
+use Rattle.messages.specs.promises.Numbers.{InTable, RefusedNumbers}
 use Rattle.messages.specs.Layout.{behindFor, dumpGiven, givenRows}
-
--- The numbers of a refused message: 4 to 12, and 14.
-abbrev pub InTable : ℕ → Type 0
-InTable n = (4 ≤ n) × (n ≤ 14) × (n ≡ 13 → ⊥)
 
 -- The rows of a kind have listed numbers, whatever it tests.
 abbrev RowsInTable : List Row → Type 0
@@ -69,7 +66,7 @@ record-done (ofShort k) m = made _ _ _ refl
 record-done unknown m = made _ _ _ refl
 
 -- A refused message has a listed number.
-pub judge-number : (m : List ℕ) (r : Outcome) → judge m ≡ refused r → InTable (r .answer)
+pub judge-number : RefusedNumbers
 unfolding judge
 judge-number m r e = go (record-done (kindOf (byteAt m 3)) m)
   where

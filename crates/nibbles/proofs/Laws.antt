@@ -3,7 +3,7 @@
 use mathlib.Core.Path.{_≡_, refl, sym, ap, _∙_}
 use mathlib.Core.Bool.{Bool, true, false, cond}
 use mathlib.Core.List.{List, [], _∷_, _++_, append-assoc, append-nil, tail-eq-of-cons-eq, nil≢cons}
-use mathlib.Core.Logic.{_↔_, _⊎_, inl, inr}
+use mathlib.Core.Logic.{_⊎_, inl, inr}
 use mathlib.Core.Option.{none, some}
 use Prim.Native.Nat.{ℕ, zero, suc, _+_, _*_, _/_, _%_, _≤_, _<_}
 use native.Mathlib.Nat.{le-of-suc-le-suc}
@@ -15,6 +15,7 @@ use lib.Seq.{drop-cons, take-suc, length-take-le}
 use borrow.Author.Tests.{ltb-true, ltb-false, lt-ltb, le-ltb, eq-eqb, ne-eqb}
 use Rattle.answers.specs.Lists.{All}
 use Rattle.answers.specs.Table.{outcome}
+use Rattle.nibbles.specs.promises.Inverse.{FirstWideAt, Inverse}
 use Rattle.nibbles.specs.Nibbles.{nibbles, pack, total, sum, wideFrom, firstWide, packing, unpacking}
 
 -- Nibbles and packing.
@@ -106,16 +107,6 @@ wide-none i (b ∷ ns) e = by (ltb 15 b) refl e (wide-none (suc i) ns)
     by true q e rest = let z : _≡_ {A = ℕ} 0 1 = cc in absurd (omega arith)
     by false q e rest = (omega (arith, ltb-false 15 b q), rest e)
 
--- No byte is wide exactly when all are below 16.
-pub none-wide-exactly : (ns : List ℕ) → (firstWide ns ≡ none) ↔ All (λ b. b < 16) ns
-none-wide-exactly ns = (wide-none _ ns, not-wide _ ns)
-
--- A wide byte stands at i, and none before it.
-pub record FirstWideAt (ns : List ℕ) (i : ℕ) : Type 0 where
-  pub within : i < length ns
-  pub wide : 15 < getD ns i 0
-  pub narrow-before : All (λ b. b < 16) (take i ns)
-
 abbrev Found : ℕ → List ℕ → ℕ → Type 0
 Found k ns i = (j : ℕ) × (i ≡ k + j) × FirstWideAt ns j
 
@@ -147,14 +138,11 @@ finds k (b ∷ ns) (suc j) f =
     ∙ ap some moved
 
 -- The answer is i exactly when a wide byte stands at i and none before it.
-pub first-wide-exactly : (ns : List ℕ) (i : ℕ) → (firstWide ns ≡ some i) ↔ FirstWideAt ns i
-first-wide-exactly ns i = (at-first, λ f. finds 0 ns i f ∙ ap some (omega arith))
-  where
-    at-first : firstWide ns ≡ some i → FirstWideAt ns i
-    at-first e =
-        let (j, at, f) = found 0 ns i e in
-        let same : i ≡ j = omega arith in
-        rw same f
+first-wide-at : (ns : List ℕ) (i : ℕ) → firstWide ns ≡ some i → FirstWideAt ns i
+first-wide-at ns i e =
+    let (j, at, f) = found 0 ns i e in
+    let same : i ≡ j = omega arith in
+    rw same f
 
 -- The sum.
 
@@ -168,6 +156,16 @@ total-append (b ∷ p) q = omega (arith, total-append p q)
 pub sum-below : (p : List ℕ) → sum p < 128
 unfolding sum
 sum-below p = omega arith
+
+pub inverse : Inverse
+inverse = record {
+  packed-again = pack-nibbles;
+  sent-again = nibbles-pack;
+  narrow = nibbles-narrow;
+  sum-below = sum-below;
+  first-wide = λ ns i. (first-wide-at ns i, λ f. finds 0 ns i f ∙ ap some (omega arith));
+  none-wide = λ ns. (wide-none _ ns, not-wide _ ns);
+}
 
 -- The sum of packed bytes around one of them.
 pub sum-around : (p₁ : List ℕ) (b : ℕ) (p₂ : List ℕ) → sum (p₁ ++ b ∷ p₂) ≡ (total p₁ + (b + total p₂)) % 128

@@ -3,27 +3,17 @@ use mathlib.Core.Path.{_≡_, refl}
 use mathlib.Core.List.{List, [], _∷_}
 use Prim.Native.Nat.{ℕ}
 use native.Mathlib.Omega.{arith}
-use Rattle.answers.specs.Table.{done, refused, outcome}
+use Rattle.answers.specs.Table.{outcome}
 use Rattle.answers.specs.Effect.{tested}
-use Rattle.frames.specs.Bytes.{byteKind, body, withoutRealTime}
-use Rattle.frames.specs.Stream.{report, messageAt, firstFrom, walk, reports}
-use Rattle.fields.specs.Fields.{fields, searchFrom, placeOf}
+use Rattle.fields.specs.Fields.{fields}
 use Rattle.ranges.specs.Ranges.{between, inRow, outFrom}
 use Rattle.patch.specs.Patch.{halfUsed, halfFrom}
-use Rattle.edits.specs.Edits.{extended, storedFor, editRows}
 use Rattle.messages.specs.declared.kinds.Kind.the-variants.{Dump as ofDump}
 use Rattle.messages.specs.Kinds.{singlePatch, Filed, kindOf}
-use Rattle.messages.specs.Judge.{judge}
 use Rattle.messages.specs.Layout.{message, recordFor, givenRows}
 use Rattle.theorems.specs.Examples.{P}
 use Rattle.theorems.specs.Damage.{lose, damaged, Contained}
 use Rattle.theorems.proofs.Damage.{demand-3}
-
--- A message with nothing in it, an edit of parameter 21, and an F0H at the end.
-pub listing-example : reports judge (0x41 ∷ 0xF0 ∷ 0xF7 ∷ 0xF0 ∷ 0x10 ∷ 0x06 ∷ 0x06 ∷ 0x15 ∷ 0x7F ∷ 0xF7 ∷ 0xF0 ∷ [])
-    ≡ report 1 3 (refused (outcome 4 0)) ∷ report 3 10 (done 0x06 (0x15 ∷ 0x7F ∷ []) []) ∷ report 10 11 (refused (outcome 2 0)) ∷ []
-unfolding reports walk firstFrom messageAt body withoutRealTime byteKind judge kindOf editRows placeOf searchFrom fields storedFor extended inRow between
-listing-example = refl
 
 taken : tested (givenRows (ofDump singlePatch) (0 ∷ []) P) ≡ outcome 0 0
 unfolding outFrom halfFrom halfUsed inRow between fields
