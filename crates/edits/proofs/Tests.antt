@@ -13,11 +13,12 @@ use Rattle.answers.specs.Effect.{changed}
 use Rattle.answers.proofs.Rows.{Refusals, row-silent, row-at-silent}
 use Rattle.answers.specs.promises.Decides.{Silent}
 use Rattle.ranges.specs.Ranges.{outFrom}
-use Rattle.ranges.proofs.Runs.{three}
+use Rattle.ranges.proofs.Runs.{further, out-further}
 use Rattle.fields.specs.Fields.{fields, inRange, placeOf}
 use Rattle.patch.specs.Patch.{halfUsed, patchRows}
-use Rattle.fields.proofs.Buses.{bus-range}
-use Rattle.edits.specs.Edits.{extended, storedFor, outAt, editRows, byteRows, busRows, withByte, applying}
+use Rattle.fields.specs.code.Columns.{busTable}
+use Rattle.fields.proofs.Buses.{bus-rows}
+use Rattle.edits.specs.Edits.{extended, storedFor, outAt, editRows, busRows, withByte, applying}
 use Rattle.edits.specs.code.Value.{valueRows}
 
 -- The rows of a remote edit whose parameter has a place are the tests of its value there.
@@ -44,14 +45,11 @@ unfolding applying
 applying-nowhere n v p e =
     ap (λ (rows : List Row). changed 0 (withByte (placeOf n) (storedFor n v) p) p (first (rows ++ patchRows p) (done 0 [] []))) (rows-nowhere n v e)
 
--- The tests of a bus's three bytes, by those of bus 0: all buses have the same ranges.
-pub byte-rows : (b s a d : ℕ) → b ≤ 9 → byteRows b s a d
-    ≡ rowAt 11 (cond (inRange 104 s) (cond (inRange 105 a) (cond (inRange 106 d) none (some (104 + 3 * b + 2))) (some (104 + 3 * b + 1))) (some (104 + 3 * b)))
-    ∷ rowAt 12 (cond (halfUsed s d) (some b) none) ∷ []
-byte-rows b s a d h =
+-- The three bytes of a bus, by the rows of bus 0: all buses have the same ranges.
+pub bus-out : (b s a d : ℕ) → b ≤ 9 → outFrom fields (104 + 3 * b) (s ∷ a ∷ d ∷ []) ≡ further (104 + 3 * b) (outFrom busTable 0 (s ∷ a ∷ d ∷ []))
+bus-out b s a d h =
     let here : 104 + 3 * b + 0 ≡ 104 + 3 * b = omega arith in
-    let source = rw here at (bus-range b 0 s h (omega arith)) in
-    rw (three fields (104 + 3 * b) s a d, source, bus-range b 1 a h (omega arith), bus-range b 2 d h (omega arith))
+    rw here at (out-further fields busTable (104 + 3 * b) 0 (s ∷ a ∷ d ∷ []) (λ i x l. bus-rows b h i x (omega arith)))
 
 -- The rows of an edit are refusals: of a value at its place, of a remote edit, of a matrix modulation edit.
 pub value-refusals : (k n v : ℕ) → Refusals (valueRows k n v)

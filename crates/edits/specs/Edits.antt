@@ -2,7 +2,7 @@
 use mathlib.Core.Bool.{Bool, true, false, cond, not, _||_}
 use mathlib.Core.List.{List, [], _∷_, _++_}
 use mathlib.Core.Option.{Option, none, some}
-use Prim.Native.Nat.{ℕ, _+_, _*_}
+use Prim.Native.Nat.{ℕ, _+_}
 use lib.Dec.{eqb, ltb}
 use lib.ListN.{set}
 use Rattle.answers.specs.declared.Outcome.{Outcome}
@@ -10,7 +10,7 @@ use Rattle.answers.specs.Table.{Row, row, rowAt, done, first}
 use Rattle.answers.specs.Effect.{Effect, changed}
 use Rattle.ranges.specs.Ranges.{outFrom}
 use Rattle.fields.specs.Fields.{fields, inRange, placeOf}
-use Rattle.patch.specs.Patch.{halfUsed, patchRows}
+use Rattle.patch.specs.Patch.{sourceAt, amountAt, destinationAt, halfUsed, patchRows}
 
 -- From seven bits to eight: bit 6 is copied into bit 7.
 unfoldable pub extended : ℕ → ℕ
@@ -35,18 +35,17 @@ editRows parameter v =
     row 8 (missing (placeOf parameter) || ltb 127 v) ∷
     rowAt 11 (outAt (placeOf parameter) (storedFor parameter v)) ∷ []
 
--- The tests of the three bytes of a bus, the amount as stored: 11, then 12. Its source stands at 104 + 3b, its amount and its destination
--- behind it.
+-- The tests of the three bytes of a bus, the amount as stored: 11, then 12.
 abbrev pub byteRows : ℕ → ℕ → ℕ → ℕ → List Row
 byteRows bus source amount destination =
-    rowAt 11 (outFrom fields (104 + 3 * bus) (source ∷ amount ∷ destination ∷ [])) ∷
+    rowAt 11 (outFrom fields (sourceAt bus) (source ∷ amount ∷ destination ∷ [])) ∷
     rowAt 12 (cond (halfUsed source destination) (some bus) none) ∷ []
 
--- The tests of a 0BH edit: 8, 14, 11, 12. Amounts have the range of place 105 on every bus.
+-- The tests of a 0BH edit: 8, 14, 11, 12. Amounts have the same range on every bus.
 unfoldable pub busRows : ℕ → ℕ → ℕ → ℕ → List Row
 busRows bus source amount destination =
     row 8 (ltb 9 bus || ltb 127 amount) ∷
-    row 14 (not (inRange 105 (extended amount))) ∷
+    row 14 (not (inRange (amountAt 0) (extended amount))) ∷
     byteRows bus source (extended amount) destination
 
 -- A patch with one byte changed, at the place of a parameter.
@@ -57,7 +56,7 @@ withByte (some k) b p = set p k b
 -- A patch with the three bytes of a bus changed.
 unfoldable pub withBus : ℕ → ℕ → ℕ → ℕ → List ℕ → List ℕ
 withBus bus source amount destination p =
-    set (set (set p (104 + 3 * bus) source) (105 + 3 * bus) (extended amount)) (106 + 3 * bus) destination
+    set (set (set p (sourceAt bus) source) (amountAt bus) (extended amount)) (destinationAt bus) destination
 
 -- Applying a 06H edit to a lent patch: the edit's own refusals, then the patch's.
 unfoldable pub applying : ℕ → ℕ → List ℕ → Effect Outcome

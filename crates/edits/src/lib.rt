@@ -5,17 +5,16 @@ use answers::NOT_ALLOWED;
 use answers::OUT_OF_RANGE;
 use answers::Outcome;
 use answers::WRONG_AMOUNT;
-use fields::AMOUNT;
 use fields::AMOUNT_AT;
+use fields::BUS;
 use fields::BUSES;
 use fields::BytePlace;
-use fields::DESTINATION;
 use fields::DESTINATION_AT;
 use fields::FoundPlace;
+use fields::NOT_EXTENDED;
 use fields::Parameter;
-use fields::SOURCE;
 use fields::SOURCE_AT;
-use ranges::lies_between;
+use ranges::Failed;
 ghost use mathlib.Core.Path.{_≡_};
 ghost use Prim.Native.Nat.{_≤_};
 ghost use Rattle.answers.specs.Effect.{Gives, tested};
@@ -40,7 +39,7 @@ fn stored_for(parameter: Parameter, v: u8) -> u8
     requires { ⌜ v ≤ 127 ⌝ }
     ensures { λ r. ⌜ r ≡ storedFor (parameter .0) v ⌝ }
 {
-    if parameter.0 == 21 {
+    if parameter.0 == NOT_EXTENDED {
         return v;
     }
     extend(v)
@@ -78,15 +77,9 @@ fn test_bytes(bus: u8, source: u8, amount: u8, destination: u8) -> Outcome
     ensures { λ r. ⌜ r ≡ tested (byteRows bus source amount destination) ⌝ }
 {
     let b = bus as usize;
-    let k = SOURCE_AT + 3 * b;
-    if !lies_between(SOURCE.2, SOURCE.3, source) {
-        return answers::refused(OUT_OF_RANGE, k);
-    }
-    if !lies_between(AMOUNT.2, AMOUNT.3, amount) {
-        return answers::refused(OUT_OF_RANGE, k + 1);
-    }
-    if !lies_between(DESTINATION.2, DESTINATION.3, destination) {
-        return answers::refused(OUT_OF_RANGE, k + 2);
+    let out = ranges::first_out(&BUS, &[source, amount, destination]);
+    if let Failed::At(j) = out {
+        return answers::refused(OUT_OF_RANGE, SOURCE_AT + 3 * b + j);
     }
     if patch::half_used(source, destination) {
         return answers::refused(HALF_USED, b);
@@ -105,7 +98,7 @@ pub fn test_bus_edit(bus: u8, source: u8, amount: u8, destination: u8) -> Outcom
         return answers::refused(NOT_ALLOWED, 0);
     }
     let stored = extend(amount);
-    if !lies_between(AMOUNT.2, AMOUNT.3, stored) {
+    if !ranges::in_row(&BUS, 1, stored) {
         return answers::refused(WRONG_AMOUNT, 0);
     }
     test_bytes(bus, source, stored, destination)

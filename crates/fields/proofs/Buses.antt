@@ -1,13 +1,14 @@
 -- The three bytes of a bus have the same ranges on every bus, those of bus 0, which one test of the ten shows.
-use mathlib.Core.Path.{_≡_, sym, _∙_}
+use mathlib.Core.Path.{_≡_, refl, sym, _∙_}
 use mathlib.Core.Bool.{Bool, true, _&&_}
-use Prim.Native.Nat.{ℕ, _+_, _*_, _≤_, _<_}
+use Prim.Native.Nat.{ℕ, zero, suc, _+_, _*_, _≤_, _<_}
 use native.Mathlib.Omega.{arith}
 use lib.Dec.{T, eqb, leb, ltb, eqb→eq, leb→le, ltb→lt}
 use Rattle.ranges.specs.Ranges.{inRow}
 use Rattle.ranges.proofs.Below.{parts, each, at}
 use Rattle.ranges.proofs.Between.{Lies, plain, positive, negative, lies}
 use Rattle.fields.specs.Fields.{fields, leastAt, greatestAt, inRange}
+use Rattle.fields.specs.code.Columns.{busTable}
 
 -- Two places have the same bounds.
 abbrev alike : ℕ → ℕ → Bool
@@ -28,6 +29,17 @@ bus-range b j x h l =
     let t = at (λ j. alike (104 + 3 * b + j) (104 + j)) 3 (at bus-alike 10 all-buses b (omega arith)) j l in
     let q = parts (eqb (leastAt k) (leastAt (104 + j))) (eqb (greatestAt k) (greatestAt (104 + j))) t in
     rw (eqb→eq (leastAt k) (leastAt (104 + j)) (q .0), eqb→eq (greatestAt k) (greatestAt (104 + j)) (q .1))
+
+-- The same of the rows of bus 0 alone.
+row-of : (j x : ℕ) → j < 3 → inRow busTable j x ≡ inRange (104 + j) x
+unfolding fields inRow
+row-of zero x l = refl
+row-of (suc zero) x l = refl
+row-of (suc (suc zero)) x l = refl
+row-of (suc (suc (suc j))) x l = absurd (omega arith)
+
+pub bus-rows : (b : ℕ) → b ≤ 9 → (j x : ℕ) → j < 3 → inRow busTable j x ≡ inRange (104 + 3 * b + j) x
+bus-rows b h j x l = row-of j x l ∙ sym (bus-range b j x h l)
 
 below : (k x : ℕ) → T (leb (leastAt k) (greatestAt k) && ltb (greatestAt k) 128) → inRange k x ≡ true → x < 128
 unfolding inRow

@@ -9,11 +9,11 @@ use lib.Dec.{T, eqb, leb, ltb, eqb→eq, leb→le, ltb→lt, T-not}
 use lib.ListN.{length, List·getD-eq-default}
 use borrow.Author.Tests.{lt-ltb, le-ltb, le-leb, lt-leb, ne-eqb, ltb-true, ltb-false, leb-true, leb-false}
 use Rattle.ranges.specs.Ranges.{between, inRow}
-use Rattle.ranges.specs.promises.Rule as table
+use Rattle.ranges.specs.promises.Tables.{TableRule}
 use Rattle.ranges.proofs.Below.{parts, holds, each, at}
 use Rattle.ranges.proofs.Between.{Lies, plain, positive, negative, lies, narrow-apart}
 use Rattle.ranges.proofs.Runs.{narrow-row}
-use Rattle.ranges.proofs.Rule.{right, rule}
+use Rattle.ranges.proofs.Tables.{right, table-rule}
 use Rattle.fields.specs.Fields.{fields, parameterAt, leastAt, greatestAt, inRange, searchFrom, placeOf, parameterOf}
 use Rattle.fields.specs.promises.Rule.{unused}
 
@@ -26,8 +26,8 @@ all-right : T (right fields)
 unfolding fields
 all-right = tt
 
-pub fields-rule : table.Rule fields
-fields-rule = rule fields all-right
+pub fields-rule : TableRule fields
+fields-rule = table-rule fields all-right
 
 -- Past the table there is nothing but 0.
 pub past : (k : ℕ) → 134 ≤ k → (leastAt k ≡ 0) × (greatestAt k ≡ 0)

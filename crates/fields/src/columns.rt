@@ -1,6 +1,6 @@
 // What the rows give by column: least values and widths by place, for the test of a whole patch; and for a single look the ranges of four
 // places, or the places of eight parameters, in one number behind a match. A constant array is laid out on the stack wherever it is
-// read, and a match is not. All of it is computed from the rows.
+// read, and a match is not. All its numbers are computed from the rows.
 use crate::PLACES;
 use crate::rows::*;
 ghost use Prim.Native.Nat.{_*_};

@@ -8,6 +8,7 @@ use crate::columns::four_ranges;
 use crate::rows::FIELDS;
 use crate::rows::NONE;
 use crate::rows::R0;
+use crate::rows::R26;
 use crate::rows::R104;
 use crate::rows::R105;
 use crate::rows::R106;
@@ -34,12 +35,15 @@ pub const NAME: Field = R0;
 // The buses come last, three bytes each.
 pub const BUSES: usize = 10;
 
-// The rows of bus 0: every bus has the same ranges.
-pub const SOURCE: Field = R104;
+// The rows of bus 0, source, amount and destination: every bus has the same ranges.
+pub const BUS: [[u8; 4]; 3] = [
+    [R104.0, R104.1, R104.2, R104.3],
+    [R105.0, R105.1, R105.2, R105.3],
+    [R106.0, R106.1, R106.2, R106.3],
+];
 
-pub const AMOUNT: Field = R105;
-
-pub const DESTINATION: Field = R106;
+// The one parameter whose value is stored as it is.
+pub const NOT_EXTENDED: u8 = R26.1;
 
 // Where bus 0 has them; those of the next bus stand three places on.
 pub const SOURCE_AT: usize = R104.0 as usize;

@@ -5,6 +5,7 @@ use mathlib.Core.Bool.{false}
 use mathlib.Core.List.{List}
 use Prim.Native.Nat.{ℕ, _+_, _*_}
 use native.Mathlib.Omega.{arith}
+use lib.Dec.{T}
 use lib.ListN.{length, drop, getD}
 use borrow.Author.Tests.{eq-eqb, ne-eqb}
 use Rattle.answers.specs.declared.Outcome.{Outcome}
@@ -20,7 +21,8 @@ use Rattle.messages.specs.declared.kinds.Short.{Short}
 use Rattle.messages.specs.Kinds.{kindOf, opcodeOf, sizeOf, countOf, lengthOf, isUnknown}
 use Rattle.messages.specs.Judge.{byteAt, dumpRows, operandRows, numberIn, kindRows, recordOf, judge}
 use Rattle.judging.specs.code.Judged.{kindVerdict, judged, judgedAs, refusedBy, sentIn, sumIn}
-use Rattle.messages.proofs.Filed.{Sized}
+use Rattle.messages.specs.code.Sizes.{sized}
+use Rattle.messages.proofs.Filed.{is-sized}
 use Rattle.messages.proofs.DumpLaws.{dump-refusals}
 use Rattle.messages.proofs.Numbers.{operand-refusals}
 use Rattle.messages.proofs.Content.{framed-length, framed-byte, framed-data, framed-sum, framed-bytes}
@@ -54,22 +56,22 @@ module _ {k : Kind} {c : List ℕ} {rows : List Row} {bytes : List ℕ} (i : Jud
 abbrev pub contentRows : Dump → List ℕ → List Row
 contentRows k c = let size = sizeOf (k .packed) in dumpRows k (getD c 3 0) (sentIn size c) (sumIn size c)
 
-pub of-dump : (k : Dump) → Sized (ofDump k) → (c : List ℕ) → Judging (ofDump k) c (contentRows k c) (four (numberIn (k .behind) (getD c 3 0)))
+pub of-dump : (k : Dump) → T (sized (ofDump k)) → (c : List ℕ) → Judging (ofDump k) c (contentRows k c) (four (numberIn (k .behind) (getD c 3 0)))
 of-dump k s c = record {
   known = refl;
   tests = λ l.
-      let long : length c ≡ 5 + 2 * sizeOf (k .packed) = omega (arith, s .0) in
+      let long : length c ≡ 5 + 2 * sizeOf (k .packed) = omega (arith, is-sized (ofDump k) s .0) in
       rw (framed-byte c 3 (omega arith), framed-data (sizeOf (k .packed)) c long, framed-sum (sizeOf (k .packed)) c long);
   refusals = dump-refusals k (getD c 3 0) (sentIn (sizeOf (k .packed)) c) (sumIn (sizeOf (k .packed)) c);
-  accepts = λ l. rw (framed-byte c 3 (omega (arith, s .0)));
+  accepts = λ l. rw (framed-byte c 3 (omega (arith, is-sized (ofDump k) s .0)));
 }
 
-pub of-short : (k : Short) → Sized (ofShort k) → (c : List ℕ) → Judging (ofShort k) c (operandRows (k .operands) (drop 3 c)) (four (drop 3 c))
+pub of-short : (k : Short) → T (sized (ofShort k)) → (c : List ℕ) → Judging (ofShort k) c (operandRows (k .operands) (drop 3 c)) (four (drop 3 c))
 of-short k s c = record {
   known = refl;
-  tests = λ l. rw (framed-bytes (countOf (k .operands)) c (omega (arith, s .0)));
+  tests = λ l. rw (framed-bytes (countOf (k .operands)) c (omega (arith, is-sized (ofShort k) s .0)));
   refusals = operand-refusals (k .operands) (drop 3 c);
-  accepts = λ l. rw (framed-bytes (countOf (k .operands)) c (omega (arith, s .0)));
+  accepts = λ l. rw (framed-bytes (countOf (k .operands)) c (omega (arith, is-sized (ofShort k) s .0)));
 }
 
 -- The rows 4 and 5, and what is left to the kind.

@@ -66,10 +66,11 @@ module _ (k : Dump) (filed : Filed (ofDump k)) (patch : k .packed ≡ aPatch) (n
       let narrow = all-at (λ b. b < 16) (nibbles p₁ ++ ((b % 16) ∷ [])) y (nibbles p₂) (rw (append-snoc (nibbles p₁) (b % 16) (y ∷ nibbles p₂)) (q .narrow)) in
       let l₀ : length (p₁ ++ b ∷ p₂) ≡ 134 = rw e₀ at l in
       let ok₀ : firstOut (p₁ ++ b ∷ p₂) ≡ none = rw e₀ at ok in
+      let byte = all-at (λ b. b < 256) p₁ b p₂ (run-bytes fields 0 (p₁ ++ b ∷ p₂) ok₀) in
       ⊎-elim
       (λ (h : c ≡ b + 128). fields-apart p₁ b p₂ l₀ ok₀ (rw (← h) (q .fits)))
       (λ (h : b ≡ c + 128). fields-apart p₁ c p₂ (omega (arith, length-append p₁ (c ∷ p₂), length-append p₁ (b ∷ p₂))) (q .fits) (rw (← h) ok₀))
-      (high-changes-sum p₁ p₂ b y (all-at (λ b. b < 256) p₁ b p₂ (run-bytes fields 0 (p₁ ++ b ∷ p₂) ok₀)) narrow (λ h. ne (h ∙ sym e₂)) (rw e₀ at (q .same-sum)))
+      (high-changes-sum p₁ p₂ b y byte narrow (λ h. ne (h ∙ sym e₂)) (rw e₀ at (q .same-sum)))
 
   -- The byte x of the nibbles and the sum replaced by another byte y: the dump is not accepted.
   pub replaced : (u : List ℕ) (x : ℕ) (v : List ℕ) (y : ℕ) → u ++ x ∷ v ≡ nibbles p ++ (sum p ∷ []) → (y ≡ x → ⊥)

@@ -9,7 +9,7 @@ use Rattle.nibbles.specs.Nibbles.{pack, sum, firstWide}
 use Rattle.ranges.specs.Ranges.{outBy}
 use Rattle.patch.specs.Patch.{halfFrom}
 use Rattle.edits.specs.Edits.{editRows, busRows}
-use Rattle.messages.specs.Kinds.{Behind, numberTo, always, Packed, Dump, Operands, anEdit, aBusEdit}
+use Rattle.messages.specs.Kinds.{maker, device, Behind, numberTo, always, Packed, Dump, Operands, anEdit, aBusEdit}
 use Rattle.messages.specs.Kinds.{Kind, ofDump, ofShort, unknown, kindOf, countOf, shapeOf, sizeOf, lengthOf, isUnknown}
 
 -- The byte at place i of a message, F0H at 0.
@@ -87,8 +87,8 @@ kindTable k m = row 6 (isUnknown k) ∷ row 7 (not (eqb (length m) (lengthOf k))
 -- The table, from 4 on.
 abbrev pub messageRows : List ℕ → List Row
 messageRows m =
-    row 4 (not (eqb (byteAt m 1) 0x10)) ∷
-    row 5 (not (eqb (byteAt m 2) 0x06)) ∷
+    row 4 (not (eqb (byteAt m 1) maker)) ∷
+    row 5 (not (eqb (byteAt m 2) device)) ∷
     kindTable (kindOf (byteAt m 3)) m
 
 -- What a message comes to: the first row of the table that holds, else its record.

@@ -19,6 +19,13 @@ pub use Rattle.messages.specs.declared.kinds.Short.{Short}
 pub use Rattle.messages.specs.declared.kinds.Kind.{Kind}
 pub use Rattle.messages.specs.declared.kinds.Kind.the-variants.{Dump as ofDump, Short as ofShort, Unknown as unknown}
 
+-- Every message of ours has these behind its F0H: Oberheim, and Matrix-6R or Matrix-1000.
+abbrev pub maker : ℕ
+maker = 0x10
+
+abbrev pub device : ℕ
+device = 0x06
+
 -- The packed bytes of a master.
 abbrev pub master : ℕ
 master = 172
@@ -64,7 +71,7 @@ busEdit = shortKind 0x0B aBusEdit
 abbrev pub editBuffer : Dump
 editBuffer = dumpKind 0x0D (always 0) aPatch
 
--- The kinds, in the order in which the code asks for them.
+-- The kinds, in the order of the code's match.
 abbrev pub kinds : List Kind
 kinds = ofDump singlePatch ∷ ofDump masterParameters ∷ ofShort remoteEdit ∷ ofShort busEdit ∷ ofDump editBuffer ∷ []
 

@@ -7,12 +7,12 @@ use lib.ListN.{length, getD}
 use Rattle.answers.specs.Table.{Row, row, Verdict, done}
 use Rattle.frames.specs.Bytes.{framed}
 use Rattle.nibbles.specs.Nibbles.{nibbles, sum}
-use Rattle.messages.specs.Kinds.{Behind, numberTo, always, Dump, Kind, ofDump, ofShort, unknown, opcodeOf, sizeOf}
+use Rattle.messages.specs.Kinds.{maker, device, Behind, numberTo, always, Dump, Kind, ofDump, ofShort, unknown, opcodeOf, sizeOf}
 use Rattle.messages.specs.Judge.{misnumbered, packedRows, lentOperandRows}
 
 -- F0H 10H 06H, the opcode, its bytes, F7H.
 abbrev pub messageOf : ℕ → List ℕ → List ℕ
-messageOf opcode bytes = framed (0x10 ∷ 0x06 ∷ opcode ∷ bytes)
+messageOf opcode bytes = framed (maker ∷ device ∷ opcode ∷ bytes)
 
 -- A dump: the byte behind the opcode (number, version or zero), the nibbles, the sum of the packed bytes.
 unfoldable pub dump : ℕ → ℕ → List ℕ → List ℕ

@@ -13,15 +13,25 @@ use Rattle.fields.specs.Fields.{size, fields}
 abbrev pub firstOut : List ℕ → Option ℕ
 firstOut p = outFrom fields 0 p
 
+-- Where bus b has its source, its amount and its destination.
+abbrev pub sourceAt : ℕ → ℕ
+sourceAt b = 104 + 3 * b
+
+abbrev pub amountAt : ℕ → ℕ
+amountAt b = 105 + 3 * b
+
+abbrev pub destinationAt : ℕ → ℕ
+destinationAt b = 106 + 3 * b
+
 -- A bus has source and destination both zero or both not: half used otherwise.
 unfoldable pub halfUsed : ℕ → ℕ → Bool
 halfUsed source destination = not (Bool·beq (eqb source 0) (eqb destination 0))
 
--- The lowest half used of the n buses from bus b on: source at 104 + 3b, destination at 106 + 3b.
+-- The lowest half used of the n buses from bus b on.
 unfoldable pub halfFrom : ℕ → ℕ → List ℕ → Option ℕ
 halfFrom zero b p = none
 halfFrom (suc n) b p =
-    cond (halfUsed (getD p (104 + 3 * b) 0) (getD p (106 + 3 * b) 0)) (some b) (halfFrom n (suc b) p)
+    cond (halfUsed (getD p (sourceAt b) 0) (getD p (destinationAt b) 0)) (some b) (halfFrom n (suc b) p)
 
 abbrev pub buses : ℕ
 buses = 10

@@ -96,7 +96,7 @@ fn all_in_range(p: &[u8]) -> bool
     rest_in_range(p)
 }
 
-// The lowest place out of range. Its callers have tested the length.
+// The lowest place out of range. Its caller has tested the length.
 fn first_out(p: &[u8]) -> Failed
     requires { ⌜ length (now p) ≡ size ⌝ }
     ensures { λ r. ⌜ r ≡ foundAt (firstOut (now (p .entry))) ⌝ }
@@ -141,7 +141,7 @@ fn buses_whole(p: &[u8]) -> bool
     half == 0
 }
 
-// The lowest bus half used. Its callers have tested the length.
+// The lowest bus half used. Its caller has tested the length.
 fn first_half(p: &[u8]) -> Failed
     requires { ⌜ length (now p) ≡ size ⌝ }
     ensures { λ r. ⌜ r ≡ foundAt (firstHalf (now (p .entry))) ⌝ }
@@ -159,8 +159,8 @@ fn first_half(p: &[u8]) -> Failed
     Failed::Nowhere
 }
 
-// The fields of 134 bytes: 11, then 12. Its callers have tested the length.
-pub(crate) fn test_fields(p: &[u8]) -> Outcome
+// The fields of 134 bytes: 11, then 12. Its caller has tested the length.
+fn test_fields(p: &[u8]) -> Outcome
     requires { ⌜ length (now p) ≡ size ⌝ }
     ensures { λ r. ⌜ r ≡ tested (fieldRows (now (p .entry))) ⌝ }
 {

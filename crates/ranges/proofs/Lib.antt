@@ -3,4 +3,4 @@ pub mod Between
 pub mod Steps
 pub mod Runs
 pub mod Found
-pub mod Rule
+pub mod Tables

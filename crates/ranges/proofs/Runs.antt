@@ -2,10 +2,9 @@
 use mathlib.Core.Path.{_≡_, refl}
 use mathlib.Core.Bool.{Bool, true, false, cond}
 use mathlib.Core.List.{List, [], _∷_, _++_}
-use mathlib.Core.Option.{none, some}
+use mathlib.Core.Option.{Option, none, some}
 use Prim.Native.Nat.{ℕ, zero, suc, _+_, _≤_, _<_}
 use native.Mathlib.Omega.{arith}
-use native.Mathlib.Numerals.{add-one}
 use lib.Dec.{T}
 use lib.ListN.{length, set}
 use Rattle.answers.specs.Lists.{All}
@@ -39,12 +38,6 @@ module _ (t : Table) where
   run-bytes k [] e = tt
   run-bytes k (b ∷ p) e = let c = one-in k b p e in (is-byte (leastIn t k) (greatestIn t k) b (c .0), run-bytes (suc k) p (c .1))
 
-  -- The lowest place out of range among three bytes.
-  pub three : (k s a d : ℕ) → outFrom t k (s ∷ a ∷ d ∷ [])
-      ≡ cond (inRow t k s) (cond (inRow t (k + 1) a) (cond (inRow t (k + 2) d) none (some (k + 2))) (some (k + 1))) (some k)
-  unfolding outFrom
-  three k s a d = let two : k + 2 ≡ suc (suc k) = omega arith in rw (add-one k, two)
-
   -- A byte that is accepted at its place is stored: still no place is out of range.
   pub out-set : (j k b : ℕ) (p : List ℕ) → outFrom t j p ≡ none → inRow t (j + k) b ≡ true → outFrom t j (set p k b) ≡ none
   out-set j k b [] e h = e
@@ -69,6 +62,16 @@ module _ (t : Table) where
       let d = out-split (suc k) m a r (omega arith) (c .1) in
       (one-more-in k x a (c .0) (d .0), d .1)
 
+  -- A place that is found is one of the bytes'.
+  pub out-below : (k : ℕ) (p : List ℕ) (j : ℕ) → outFrom t k p ≡ some j → j < k + length p
+  unfolding outFrom
+  out-below k [] j e = let z : _≡_ {A = ℕ} 0 1 = cc in absurd (omega arith)
+  out-below k (b ∷ p) j e = go (inRow t k b) e (out-below (suc k) p j)
+    where
+      go : (u : Bool) → cond u (outFrom t (suc k) p) (some k) ≡ some j → (outFrom t (suc k) p ≡ some j → j < suc k + length p) → j < k + suc (length p)
+      go true e rest = let l = rest e in omega arith
+      go false e rest = let same : k ≡ j = cc in omega arith
+
   -- Every row spans at most 128 bytes.
   abbrev pub narrow-row : ℕ → Bool
   narrow-row k = narrow (leastIn t k) (greatestIn t k)
@@ -81,3 +84,22 @@ module _ (t : Table) where
       narrow-apart (leastIn t k) (greatestIn t k) b (at narrow-row (length t) n k (omega arith)) (one-in k b p₂ e .0) (one-in k (b + 128) p₂ f .0)
   runs-apart n k (x ∷ p₁) b p₂ h e f =
       runs-apart n (suc k) p₁ b p₂ (omega arith) (one-in k x (p₁ ++ b ∷ p₂) e .1) (one-in k x (p₁ ++ (b + 128) ∷ p₂) f .1)
+
+-- A place, m further on.
+abbrev pub further : ℕ → Option ℕ → Option ℕ
+further m none = none
+further m (some k) = some (m + k)
+
+-- Bytes by the rows of a table from place m on, as by a table u of those rows alone.
+pub out-further : (t u : Table) (m j : ℕ) (p : List ℕ) → ((i x : ℕ) → i < j + length p → inRow u i x ≡ inRow t (m + i) x)
+    → outFrom t (m + j) p ≡ further m (outFrom u j p)
+unfolding outFrom
+out-further t u m j [] same = refl
+out-further t u m j (b ∷ p) same =
+    let rest = out-further t u m (suc j) p (λ i x h. same i x (omega arith)) in
+    let next : suc (m + j) ≡ m + suc j = omega arith in
+    rw (← same j b (omega arith), next, rest) (go (inRow u j b))
+  where
+    go : (v : Bool) → cond v (further m (outFrom u (suc j) p)) (some (m + j)) ≡ further m (cond v (outFrom u (suc j) p) (some j))
+    go true = refl
+    go false = refl

@@ -1,1 +1,1 @@
-pub mod Rule
+pub mod Tables

@@ -1,4 +1,4 @@
-// Ranges of bytes, and the test of packed bytes by a table of them: for every kind of dump that has fields.
+// Ranges of bytes, and the test of bytes by a table of them.
 use answers::OUT_OF_RANGE;
 use answers::Outcome;
 use answers::WRONG_LENGTH;
@@ -7,14 +7,14 @@ ghost use Rattle.answers.specs.Effect.{tested};
 ghost use Rattle.ranges.specs.Ranges.{between, inRow, outFrom, countedRows};
 ghost use Rattle.ranges.specs.code.Found.{foundAt, lentTable};
 
-// The lowest place at which a test fails.
+// The lowest place, index or bus at which a test fails.
 pub enum Failed {
     At(usize),
     Nowhere,
 }
 
 // A byte lies between two bounds; where the least is above the greatest, the range goes on from 255 to 0.
-pub fn lies_between(least: u8, greatest: u8, b: u8) -> bool
+fn lies_between(least: u8, greatest: u8, b: u8) -> bool
     ensures { λ r. ⌜ r ≡ between least greatest b ⌝ }
 {
     if least <= greatest {
@@ -41,7 +41,7 @@ pub fn in_row(table: &[[u8; 4]], place: usize, b: u8) -> bool
     lies_between(row[2], row[3], b)
 }
 
-// The lowest place out of range.
+// The lowest place out of range, as `in_row` tests each byte.
 pub fn first_out(table: &[[u8; 4]], bytes: &[u8]) -> Failed
     ensures { λ r. ⌜ r ≡ foundAt (outFrom (now (table .entry)) 0 (now (bytes .entry))) ⌝ }
 {

@@ -25,7 +25,7 @@ pub const MOST: usize = 8;
 // The room for them.
 const ROOM: usize = MOST * WIDTH;
 
-// A report's numbers. The callers below have seen that they fit.
+// A report's numbers. Its caller has seen that they fit.
 fn put_report(r: Report, room: &mut [usize])
     requires { ⌜ width ≤ length (now room) ⌝ }
     ensures { λ _. ⌜ now (room .exit) ≡ (r .start ∷ r .end ∷ r .outcome .answer ∷ r .outcome .detail ∷ []) ++ drop width (now (room .entry)) ⌝ }

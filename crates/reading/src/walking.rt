@@ -39,7 +39,7 @@ pub(crate) fn keep(body: &[u8], room: &mut [u8]) -> usize
     room.len()
 }
 
-// What a complete message comes to, from what stands between F0H and F7H. The callers have counted the real time in it.
+// What a complete message comes to, from what stands between F0H and F7H. Its caller has counted the real time in it.
 fn judge_body(body: &[u8], noise: usize) -> Judged
     requires { ⌜ noise ≡ realTimeIn (now body) ⌝ }
     ensures { λ r. ⌜ r ≡ judged (judge (framed (withoutRealTime (now (body .entry))))) ⌝ }
@@ -52,7 +52,7 @@ fn judge_body(body: &[u8], noise: usize) -> Judged
     judge_content(&room[..n])
 }
 
-// The report of the message whose F0H stands at `start`, before `rest`. The callers below have found its end.
+// The report of the message whose F0H stands at `start`, before `rest`. Its callers have found its end.
 pub(crate) fn report_at(rest: &[u8], start: usize, span: Span) -> Report
     requires { ⌜ (start + 1 + length (now rest) < 2 ^ 64) × (span ≡ spanOf (now rest)) ⌝ }
     ensures { λ r. ⌜ r ≡ reportOf (messageAt judge start (now (rest .entry))) ⌝ }

@@ -4,8 +4,8 @@ use mathlib.Core.Option.{Option, none, some}
 use Prim.Native.Nat.{ℕ, zero, suc, _≤_}
 use lib.ListN.{length}
 use Rattle.text.specs.Text.{ascii, followed}
-use Rattle.fields.specs.Fields.{size, leastAt, greatestAt, parameterOf}
-use Rattle.ranges.specs.Values.{Value, plus, minus, valueOf}
+use Rattle.fields.specs.Fields.{size, leastAt, greatestAt, valueAt, parameterOf}
+use Rattle.ranges.specs.Values.{Value, plus, minus}
 
 -- A parameter, or a dash where there is none, and a space behind it.
 abbrev pub parameterText : Option ℕ → List ℕ
@@ -21,8 +21,8 @@ unfoldable pub tableRow : ℕ → List ℕ
 tableRow k =
     followed k 0x20
     ++ (parameterText (parameterOf k)
-    ++ (valueText (valueOf (leastAt k)) 0x20
-    ++ valueText (valueOf (greatestAt k)) 0x0A))
+    ++ (valueText (valueAt k (leastAt k)) 0x20
+    ++ valueText (valueAt k (greatestAt k)) 0x0A))
 
 -- The lines of n places from place k on.
 unfoldable pub tableRows : ℕ → ℕ → List ℕ

@@ -28,13 +28,15 @@ use Rattle.nibbles.specs.Nibbles.{nibbles, pack, nibbleRows, packing, unpacking
 use Rattle.patch.specs.Patch.{fieldRows, patchRows}
 use Rattle.patch.proofs.Tests.{field-refusals, patch-refusals}
 use Rattle.names.specs.Names.{stored, shown, nameRows, naming, showing}
+use Rattle.ranges.specs.Ranges.{countedRows}
 use Rattle.edits.specs.Edits.{editRows, busRows, withByte, withBus, storedFor, applying, applyingBus}
 use Rattle.edits.proofs.Tests.{edit-refusals, bus-refusals}
 use Rattle.fields.specs.Fields.{placeOf}
 use Rattle.messages.specs.Kinds.{kindOf}
-use Rattle.messages.specs.Judge.{byteAt, judge}
+use Rattle.messages.specs.Judge.{byteAt, lentOperandRows, messageRows, recordOf, judge}
+use Rattle.messages.specs.code.Sizes.{lentRows}
 use Rattle.messages.specs.Layout.{message, givenRows}
-use Rattle.messages.proofs.Numbers.{IsDone, made, record-done, message-refusals, given-refusals}
+use Rattle.messages.proofs.Numbers.{IsDone, made, record-done, message-refusals, given-refusals, packed-refusals, operand-refusals}
 use Rattle.reading.specs.code.Told.{reportOr, walked, reads}
 use Rattle.writing.specs.declared.BankOutcome.{BankOutcome}
 use Rattle.writing.specs.Writing.{writingBank, bankBytes, firstBad, orLater, unlessBad}
@@ -410,7 +412,7 @@ module _ (ps : List ℕ) where
 
 -- Demand 1, whole.
 pub demand-1 : Demand1
-unfolding showing packing unpacking
+unfolding showing packing unpacking judge
 demand-1 = record {
   walk = λ s place.
       let l = found s place in
@@ -427,6 +429,12 @@ demand-1 = record {
   read-where = read-there;
   read-bytes = read-no-bytes;
   test = λ p. decides (patchRows p) 0 [] [] _ (patch-refusals p) refl;
+  test-edit = λ n v. decides (editRows n v) 0 [] [] _ (edit-refusals n v) refl;
+  test-bus-edit = λ b s a d. decides (busRows b s a d) 0 [] [] _ (bus-refusals b s a d) refl;
+  test-packed = λ q p. decides (lentRows q p) 0 [] [] _ ((λ z. omega arith), packed-refusals q p) refl;
+  test-operands = λ o b. decides (lentOperandRows o b) 0 [] [] _ ((λ z. omega arith), operand-refusals o b) refl;
+  test-table = λ n t p. decides (countedRows n t p) 0 [] [] _ (omega arith) refl;
+  judges = λ m. let k = kindOf (byteAt m 3) in decides-by (messageRows m) (recordOf k m) _ (record-done k m) (message-refusals m) refl;
   set-name = name-answered;
   show-name = λ p out.
       let text = map shown (take 8 p) in

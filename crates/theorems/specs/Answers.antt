@@ -4,6 +4,7 @@ use mathlib.Core.Path.{_≡_}
 use mathlib.Core.Bool.{Bool, true, false, cond, not, _||_}
 use mathlib.Core.List.{List, [], _∷_, _++_, map}
 use mathlib.Core.Logic.{_⊎_}
+use mathlib.Core.Option.{Option}
 use Prim.Native.Nat.{ℕ, zero, suc, _*_, _/_, _%_, _<_}
 use lib.Dec.{eqb, ltb}
 use lib.ListN.{length, take, drop, getD}
@@ -15,13 +16,17 @@ use Rattle.answers.specs.promises.Decides.{Decides, Keeps}
 use Rattle.frames.specs.Bytes.{body, withoutRealTime, framed}
 use Rattle.frames.specs.Stream.{packedIn, reports}
 use Rattle.nibbles.specs.Nibbles.{nibbles, pack, nibbleRows, packing, unpacking}
+use Rattle.ranges.specs.Ranges.{Table, countedRows}
 use Rattle.fields.specs.Fields.{size}
 use Rattle.patch.specs.Patch.{fieldRows, patchRows}
 use Rattle.names.specs.Names.{shown, nameRows, naming, showing}
 use Rattle.edits.specs.Edits.{editRows, busRows, applying, applyingBus}
 use Rattle.messages.specs.declared.kinds.Kind.{Kind}
+use Rattle.messages.specs.declared.kinds.Operands.{Operands}
+use Rattle.messages.specs.declared.kinds.Packed.{Packed}
 use Rattle.messages.specs.Kinds.{kindOf}
-use Rattle.messages.specs.Judge.{byteAt, recordOf, messageRows, judge}
+use Rattle.messages.specs.Judge.{byteAt, lentOperandRows, recordOf, messageRows, judge}
+use Rattle.messages.specs.code.Sizes.{lentRows}
 use Rattle.messages.specs.Layout.{message, givenRows}
 use Rattle.reading.specs.code.Told.{walked, reads}
 use Rattle.writing.specs.declared.BankOutcome.{BankOutcome}
@@ -84,11 +89,12 @@ bankTable ps out =
     row 7 (not (eqb (length ps % size) 0) || ltb bankMost (length ps)) ∷
     thenRoom (patchesRows (length ps / size) ps) (length (bankBytes ps)) out
 
--- The place that comes with a bank's outcome: with the refusal of a patch, the number of that patch, and no patch before it is refused; with
--- every other answer 0.
+-- The patch numbered k of a bank.
 abbrev pub patchAt : ℕ → List ℕ → List ℕ
 patchAt k ps = take size (drop (k * size) ps)
 
+-- The place that comes with a bank's outcome: with the refusal of a patch, the number of that patch, and no patch before it is refused; with
+-- every other answer 0.
 pub data PlaceOf (ps : List ℕ) (b : BankOutcome) : Type 0 where
   refused-patch : b .outcome ≡ tested (fieldRows (patchAt (b .place) ps)) → (b .outcome .answer ≡ 0 → ⊥)
       → ((k : ℕ) → k < b .place → tested (fieldRows (patchAt k ps)) ≡ outcome 0 0) → PlaceOf ps b
@@ -113,6 +119,15 @@ pub record Demand1 : Type 0 where
   pub read-bytes : (s : List ℕ) (place : ℕ) (lent : List ℕ)
       → let r = reads s place lent .result in (r .report .outcome .answer ≡ 0 → ⊥) → r .bytes ≡ four []
   pub test : (p : List ℕ) → Decides (patchRows p) 0 (tested (patchRows p))
+  -- the tests of an edit and of what a message packs, by themselves
+  pub test-edit : (parameter v : ℕ) → Decides (editRows parameter v) 0 (tested (editRows parameter v))
+  pub test-bus-edit : (bus source amount destination : ℕ)
+      → Decides (busRows bus source amount destination) 0 (tested (busRows bus source amount destination))
+  pub test-packed : (q : Packed) (p : List ℕ) → Decides (lentRows q p) 0 (tested (lentRows q p))
+  pub test-operands : (o : Operands) (b : List ℕ) → Decides (lentOperandRows o b) 0 (tested (lentOperandRows o b))
+  pub test-table : (n : ℕ) (t : Option Table) (p : List ℕ) → Decides (countedRows n t p) 0 (tested (countedRows n t p))
+  -- a complete message, its real-time bytes dropped
+  pub judges : (m : List ℕ) → Decides (messageRows m) (outcomeOf (recordOf (kindOf (byteAt m 3)) m) .detail) (outcomeOf (judge m))
   pub set-name : (p text : List ℕ) → let e = naming p text in Answered (nameRows p text) 0 8 p (e .result) (e .lent)
   -- the text is eight characters where the patch has its length; where it has not, row 7 refuses
   pub show-name : (p out : List ℕ)

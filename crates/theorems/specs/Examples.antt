@@ -65,8 +65,8 @@ edit parameter v = parameter ∷ v ∷ []
 abbrev pub bus : ℕ → ℕ → ℕ → ℕ → List ℕ
 bus b s a d = b ∷ s ∷ a ∷ d ∷ []
 
--- The table, in the paper's order. An edit that is accepted is read with its own bytes and changes P; one that is refused is refused alike when read,
--- written and applied.
+-- The table, in the paper's order. A message that is accepted is read with its own bytes and changes P; one that is refused is refused alike when
+-- read, written and applied.
 abbrev pub starred : List Example
 starred =
     -- P as number 0: place 157 is 01H, the sum at 273 is 01H, place 274 is F7H, all other data zero.

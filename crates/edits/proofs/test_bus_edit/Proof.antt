@@ -19,18 +19,17 @@ returns-2 c = simp (le-ltb _ _ (c .before .before .if1 .left), lt-ltb _ _ (c .be
 returns-3 : tie.Need-returns-3
 unfolding busRows fields inRow
 returns-3 c =
-    let e = c .before .before .before in
+    let e = c .before .before .before .before in
     let amounts = e .before in
-    let out = ap (inRange 105) (sym (e .extend .ensures)) ∙ sym (c .before .before .lies-between .ensures) ∙ not-true _ (c .before .if3 .taken) in
+    let out = ap (inRange 105) (sym (e .extend .ensures)) ∙ sym (c .before .before .in-row .ensures) ∙ not-true _ (c .before .if3 .taken) in
     simp (le-ltb _ _ (amounts .before .if1 .left), le-ltb _ _ (amounts .if2 .left), out) (c .refused3 .ensures)
 
 returns-4 : tie.Need-returns-4
 unfolding busRows fields inRow
 returns-4 c =
-    let e = c .before .before .before in
+    let e = c .before .before .before .before in
     let amounts = e .before in
-    let k = amounts .before .before .args in
-    let inside = ap (inRange 105) (sym (e .extend .ensures)) ∙ sym (c .before .before .lies-between .ensures) ∙ not-false _ (c .before .if3 .left) in
+    let inside = ap (inRange 105) (sym (e .extend .ensures)) ∙ sym (c .before .before .in-row .ensures) ∙ not-false _ (c .before .if3 .left) in
     let bytes = rw (e .extend .ensures) at (c .test-bytes .ensures) in
     simp (le-ltb _ _ (amounts .before .if1 .left), le-ltb _ _ (amounts .if2 .left), inside) bytes
 
@@ -43,6 +42,7 @@ test-bus-edit-spec =
     (λ c κs. search needs)
     returns-2
     (λ c κs. search needs)
+    (λ c. search needs)
     (λ c κs. search needs)
     (λ c κs. search needs)
     returns-3

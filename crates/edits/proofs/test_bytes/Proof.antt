@@ -1,86 +1,61 @@
--- The three places from the lowest up, by the ranges of bus 0, then the rule of a bus: the first test that fails gives the answer.
+-- The three places from the lowest up, by the rows of bus 0, then the rule of a bus: the first test that fails gives the answer.
 use mathlib.Core.Path.{_≡_, sym, ap, _∙_}
-use mathlib.Core.Bool.{true, cond}
-use mathlib.Core.List.{[], _∷_}
-use mathlib.Core.Option.{none, some}
+use mathlib.Core.Bool.{cond}
+use mathlib.Core.List.{List, [], _∷_}
+use mathlib.Core.Option.{Option, none, some}
+use Prim.Native.Nat.{ℕ, _+_, _*_}
+use native.Mathlib.Omega.{arith}
 use borrow.Author.Needs.{needs}
-use borrow.Author.Tests.{not-true, not-false}
 use Rattle.answers.specs.Table.{rowAt}
 use Rattle.answers.specs.Effect.{tested}
-use Rattle.ranges.specs.Ranges.{inRow}
-use Rattle.fields.specs.Fields.{fields, inRange}
+use Rattle.ranges.specs.Ranges.{outFrom}
+use Rattle.ranges.proofs.Found.{found-some, found-none}
+use Rattle.ranges.proofs.Runs.{further, out-below}
+use Rattle.fields.specs.Fields.{fields}
+use Rattle.fields.specs.code.Columns.{busTable}
 use Rattle.patch.specs.Patch.{halfUsed}
 use Rattle.edits.specs.Edits.{byteRows}
-use Rattle.edits.proofs.Tests.{byte-rows}
+use Rattle.edits.proofs.Tests.{bus-out}
 use Rattle.edits.proofs.test_bytes.Statement.{statement}
 use Rattle.edits.proofs.test_bytes.Tie as tie
 
--- The bounds in code are those of bus 0 in the table: what each test of a range answered.
-source : (t : tie.After-lies-between) → inRange 104 (t .before .args .source) ≡ t .lies-between .result
-unfolding fields inRow
-source t = sym (t .lies-between .ensures)
+abbrev bytes : tie.After-first-out → List ℕ
+bytes f = let a = f .before .before .before .args in a .source ∷ a .amount ∷ a .destination ∷ []
 
-amount : (t : tie.After-lies-between2) → inRange 105 (t .before .before .before .args .amount) ≡ t .lies-between2 .result
-unfolding fields inRow
-amount t = sym (t .lies-between2 .ensures)
+-- What the rows of bus 0 find, they find on every bus.
+byte-rows : (f : tie.After-first-out) (o : Option ℕ) → outFrom busTable 0 (bytes f) ≡ o → let a = f .before .before .before .args in
+    byteRows (a .bus) (a .source) (a .amount) (a .destination)
+    ≡ rowAt 11 (further (104 + 3 * a .bus) o) ∷ rowAt 12 (cond (halfUsed (a .source) (a .destination)) (some (a .bus)) none) ∷ []
+byte-rows f o e =
+    let a = f .before .before .before .args in
+    rw (bus-out (a .bus) (a .source) (a .amount) (a .destination) (f .before .before .before .pre), e)
 
-destination : (t : tie.After-lies-between3) → inRange 106 (t .before .before .before .before .before .args .destination) ≡ t .lies-between3 .result
-unfolding fields inRow
-destination t = sym (t .lies-between3 .ensures)
+-- The place that was found, or none.
+found : (k : tie.After-out) → outFrom busTable 0 (bytes (k .before .before)) ≡ some (k .out .given .0 .0)
+unfolding fields
+found k = found-some (outFrom busTable 0 (bytes (k .before .before))) _ (sym (k .out .given .1) ∙ k .before .before .first-out .ensures)
 
-source-in : (t : tie.Else1) → inRange 104 (t .before .before .args .source) ≡ true
-source-in t = source (t .before) ∙ not-false _ (t .if1 .left)
+whole : (t : tie.After-enum-told) → outFrom busTable 0 (bytes (t .before .before)) ≡ none
+unfolding fields
+whole t = found-none (outFrom busTable 0 (bytes (t .before .before))) (sym (t .enum-told .given .1) ∙ t .before .before .first-out .ensures)
 
-amount-in : (t : tie.Else2) → inRange 105 (t .before .before .before .before .args .amount) ≡ true
-amount-in t = amount (t .before) ∙ not-false _ (t .if2 .left)
+fits : tie.Need-add-refused-2
+fits c = let k = c .before in omega (arith, out-below busTable 0 (bytes (k .before .before)) _ (found k), k .before .before .before .before .before .pre)
 
 returns : tie.Need-returns
-returns c =
-    let t = c .before in
-    let s = t .before .before in
-    let k = s .args in
-    let e = ap tested (byte-rows (k .bus) (k .source) (k .amount) (k .destination) (s .pre)) in
-    c .refused .ensures ∙ sym (e ∙ simp (source (t .before) ∙ not-true _ (t .if1 .taken)))
+returns c = c .refused .ensures ∙ sym (ap tested (byte-rows (c .before .before .before .before) _ (found (c .before .before))))
 
 returns-2 : tie.Need-returns-2
 returns-2 c =
-    let t = c .before in
-    let s = t .before .before .before .before in
-    let k = s .args in
-    let out = amount (t .before) ∙ not-true _ (t .if2 .taken) in
-    let e = ap tested (byte-rows (k .bus) (k .source) (k .amount) (k .destination) (s .pre)) in
-    c .refused2 .ensures ∙ sym (e ∙ simp (source-in (t .before .before), out))
+    let t = c .before .before .before in
+    let half = sym (c .before .before .half-used .ensures) ∙ c .before .if1 .taken in
+    c .refused2 .ensures ∙ sym (ap tested (byte-rows (t .before .before) _ (whole t)) ∙ simp half)
 
 returns-3 : tie.Need-returns-3
 returns-3 c =
-    let t = c .before in
-    let second = t .before .before in
-    let first = second .before .before in
-    let s = first .before .before in
-    let k = s .args in
-    let out = destination (t .before) ∙ not-true _ (t .if3 .taken) in
-    let e = ap tested (byte-rows (k .bus) (k .source) (k .amount) (k .destination) (s .pre)) in
-    c .refused3 .ensures ∙ sym (e ∙ simp (source-in first, amount-in second, out))
-
--- Once the third byte has passed, the rule of a bus decides.
-passed : (t : tie.Else3) → let k = t .before .before .before .before .before .before .args in
-    byteRows (k .bus) (k .source) (k .amount) (k .destination)
-    ≡ rowAt 11 none ∷ rowAt 12 (cond (halfUsed (k .source) (k .destination)) (some (k .bus)) none) ∷ []
-passed t =
-    let second = t .before .before in
-    let first = second .before .before in
-    let s = first .before .before in
-    let k = s .args in
-    let destination-in = destination (t .before) ∙ not-false _ (t .if3 .left) in
-    rw (byte-rows (k .bus) (k .source) (k .amount) (k .destination) (s .pre)) (simp (source-in first, amount-in second, destination-in))
-
-returns-4 : tie.Need-returns-4
-returns-4 c =
-    c .refused4 .ensures ∙ sym (ap tested (passed (c .before .before .before)) ∙ simp (sym (c .before .before .half-used .ensures) ∙ c .before .if4 .taken))
-
-returns-5 : tie.Need-returns-5
-returns-5 c =
-    c .done .ensures ∙ sym (ap tested (passed (c .before .before .before)) ∙ simp (sym (c .before .before .half-used .ensures) ∙ c .before .if4 .left))
+    let t = c .before .before .before in
+    let half = sym (c .before .before .half-used .ensures) ∙ c .before .if1 .left in
+    c .done .ensures ∙ sym (ap tested (byte-rows (t .before .before) _ (whole t)) ∙ simp half)
 
 pub test-bytes-spec : {M : Type 1} → statement M
 test-bytes-spec =
@@ -89,18 +64,15 @@ test-bytes-spec =
     (λ c. search needs)
     (λ c. search needs)
     (λ c κs. search needs)
+    (λ c. search needs)
+    (λ c. search needs)
+    (λ c. search needs)
+    fits
     (λ c κs. search needs)
     returns
-    (λ c κs. search needs)
     (λ c. search needs)
+    (λ c κs. search needs)
     (λ c κs. search needs)
     returns-2
     (λ c κs. search needs)
-    (λ c. search needs)
-    (λ c κs. search needs)
-    returns-3
-    (λ c κs. search needs)
-    (λ c κs. search needs)
-    returns-4
-    (λ c κs. search needs)
-    returns-5)
+    returns-3)

@@ -2,12 +2,12 @@
 use mathlib.Core.Path.{_≡_}
 use mathlib.Core.List.{List}
 use mathlib.Core.Option.{some}
-use Prim.Native.Nat.{ℕ, _+_, _*_, _≤_, _<_}
+use Prim.Native.Nat.{ℕ, _≤_, _<_}
 use lib.ListN.{getD, set}
 use Rattle.answers.specs.Table.{outcome}
 use Rattle.answers.specs.Effect.{tested}
 use Rattle.fields.specs.Fields.{size, placeOf}
-use Rattle.patch.specs.Patch.{patchRows}
+use Rattle.patch.specs.Patch.{sourceAt, amountAt, destinationAt, patchRows}
 use Rattle.edits.specs.Edits.{extended, storedFor, withBus, applying, applyingBus}
 
 -- A remote edit that is done: the byte at its parameter's place becomes the value as stored, every other byte stays, and the patch
@@ -29,9 +29,9 @@ pub record BusDone (b s a d : ℕ) (p : List ℕ) : Type 0 where
   pub seven-bits : a ≤ 127
   pub answered : applyingBus b s a d p .result ≡ outcome 0 0
   pub stored : applyingBus b s a d p .lent ≡ withBus b s a d p
-  pub source : getD (applyingBus b s a d p .lent) (104 + 3 * b) 0 ≡ s
-  pub amount : getD (applyingBus b s a d p .lent) (105 + 3 * b) 0 ≡ extended a
-  pub destination : getD (applyingBus b s a d p .lent) (106 + 3 * b) 0 ≡ d
-  pub others : (i : ℕ) → (i ≡ 104 + 3 * b → ⊥) → (i ≡ 105 + 3 * b → ⊥) → (i ≡ 106 + 3 * b → ⊥)
+  pub source : getD (applyingBus b s a d p .lent) (sourceAt b) 0 ≡ s
+  pub amount : getD (applyingBus b s a d p .lent) (amountAt b) 0 ≡ extended a
+  pub destination : getD (applyingBus b s a d p .lent) (destinationAt b) 0 ≡ d
+  pub others : (i : ℕ) → (i ≡ sourceAt b → ⊥) → (i ≡ amountAt b → ⊥) → (i ≡ destinationAt b → ⊥)
       → getD (applyingBus b s a d p .lent) i 0 ≡ getD p i 0
   pub accepted : tested (patchRows (applyingBus b s a d p .lent)) ≡ outcome 0 0

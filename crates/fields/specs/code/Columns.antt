@@ -2,7 +2,9 @@
 use mathlib.Core.Path.{_≡_}
 use mathlib.Core.Option.{Option, none, some}
 use Prim.Native.Nat.{ℕ, _+_, _-_, _*_, _/_, _%_, _^_, _<_}
-use Rattle.fields.specs.Fields.{leastAt, greatestAt, placeOf}
+use lib.ListN.{take, drop}
+use Rattle.ranges.specs.Ranges.{Table}
+use Rattle.fields.specs.Fields.{fields, leastAt, greatestAt, placeOf}
 use Rattle.fields.specs.declared.FoundPlace.{FoundPlace}
 use Rattle.fields.specs.declared.FoundPlace.the-variants.{At, Nothing as no-place}
 use Rattle.fields.specs.declared.FoundParameter.{FoundParameter}
@@ -15,6 +17,10 @@ foundPlace none = no-place
 abbrev pub foundParameter : Option ℕ → FoundParameter
 foundParameter (some n) = Of (record { 0 = n })
 foundParameter none = no-parameter
+
+-- The rows of bus 0.
+abbrev pub busTable : Table
+busTable = take 3 (drop 104 fields)
 
 -- How far a place's values go above the least: greatest minus least, modulo 256.
 abbrev pub widthAt : ℕ → ℕ

@@ -6,8 +6,7 @@ use Prim.Native.Nat.{ℕ, _+_, _*_, _≤_, _<_}
 use lib.Dec.{eqb}
 use lib.ListN.{length}
 use Rattle.ranges.specs.Values.{plus, minus}
-use Rattle.ranges.specs.promises.Rule as table
-use Rattle.ranges.specs.promises.Rule.{Goes}
+use Rattle.ranges.specs.promises.Tables.{TableRule, Goes}
 use Rattle.fields.specs.Fields.{size, fields, inRange, placeOf, parameterOf}
 
 -- The numbers that have no byte.
@@ -16,9 +15,9 @@ unused n = (eqb n 39 || eqb n 49) || (eqb n 89 || eqb n 99)
 
 -- The rule of the table.
 pub record Rule : Type 0 where
-  -- 134 rows, and what holds of every table: places, bounds, signs.
+  -- 134 rows, and the rule of tables: places, bounds, signs.
   pub rows : length fields ≡ size
-  pub of-tables : table.Rule fields
+  pub of-tables : TableRule fields
   -- Parameters and bytes 8-103 match one to one: each of these bytes has a parameter, each parameter but the unused ones has a byte, and
   -- each leads back to the other.
   pub numbered : (k : ℕ) → 8 ≤ k → k < 104 → (n : ℕ) × ((n < 100) × (parameterOf k ≡ some n))

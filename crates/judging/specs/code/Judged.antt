@@ -15,7 +15,7 @@ abbrev pub bytesIn : Verdict → List ℕ
 bytesIn (done op b p) = b
 bytesIn (refused o) = []
 
--- The bytes that come with an answer, zero behind the last.
+-- Its outcome, and the bytes that come with it, zero behind the last.
 abbrev pub judged : Verdict → Judged
 judged v = record { outcome = outcomeOf v; bytes = four (bytesIn v) }
 

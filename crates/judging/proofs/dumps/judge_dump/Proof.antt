@@ -22,7 +22,7 @@ use Rattle.judging.proofs.dumps.judge_dump.Tie as tie
 returns : tie.Need-returns
 returns c =
     let start = c .before .before .before .before in
-    c .refused-by .ensures ∙ kind-length (of-dump (start .args .kind) (is-sized (ofDump (start .args .kind)) (start .pre)) (start .args .content .now)) (c .before .if1 .taken)
+    c .refused-by .ensures ∙ kind-length (of-dump (start .args .kind) (start .pre) (start .args .content .now)) (c .before .if1 .taken)
 
 abbrev kind : tie.After-wrong-number → Dump
 kind t = t .before .before .before .before .before .args .kind
@@ -33,7 +33,7 @@ content t = t .before .before .before .before .before .args .content .now
 -- What the rows of the description come to.
 abbrev rows : (t : tie.After-wrong-number)
     → Judging (ofDump (kind t)) (content t) (contentRows (kind t) (content t)) (four (numberIn (kind t .behind) (getD (content t) 3 0)))
-rows t = of-dump (kind t) (is-sized (ofDump (kind t)) (t .before .before .before .before .before .pre)) (content t)
+rows t = of-dump (kind t) (t .before .before .before .before .before .pre) (content t)
 
 number-there : tie.Need-shared-slice-read-number
 number-there c =

@@ -21,7 +21,7 @@ use Rattle.judging.proofs.shorts.judge_short.Tie as tie
 returns : tie.Need-returns
 returns c =
     let start = c .before .before .before .before in
-    c .refused-by .ensures ∙ kind-length (of-short (start .args .kind) (is-sized (ofShort (start .args .kind)) (start .pre)) (start .args .content .now)) (c .before .if1 .taken)
+    c .refused-by .ensures ∙ kind-length (of-short (start .args .kind) (start .pre) (start .args .content .now)) (c .before .if1 .taken)
 
 abbrev kind : tie.After-test-operands → Short
 kind t = t .before .before .before .before .before .args .kind
@@ -32,13 +32,13 @@ content t = t .before .before .before .before .before .args .content .now
 -- What the rows of the description come to.
 abbrev rows : (t : tie.After-test-operands)
     → Judging (ofShort (kind t)) (content t) (operandRows (kind t .operands) (drop 3 (content t))) (four (drop 3 (content t)))
-rows t = of-short (kind t) (is-sized (ofShort (kind t)) (t .before .before .before .before .before .pre)) (content t)
+rows t = of-short (kind t) (t .before .before .before .before .before .pre) (content t)
 
 -- The length is right, so the count is: what the bytes are answered is what the rows are.
 answered : (t : tie.After-test-operands) → t .test-operands .result ≡ tested (operandRows (kind t .operands) (drop 3 (content t)))
 answered t =
-    let count : length (drop 3 (content t)) ≡ countOf (kind t .operands) =
-    omega (arith, length-drop 3 (content t), t .before .before .if1 .left, is-sized (ofShort (kind t)) (t .before .before .before .before .before .pre) .0) in
+    let sized = is-sized (ofShort (kind t)) (t .before .before .before .before .before .pre) in
+    let count : length (drop 3 (content t)) ≡ countOf (kind t .operands) = omega (arith, length-drop 3 (content t), t .before .before .if1 .left, sized .0) in
     rw (to-end 3 (content t), eq-eqb (length (drop 3 (content t))) (countOf (kind t .operands)) count) at (t .test-operands .ensures)
 
 returns-2 : tie.Need-returns-2

@@ -10,7 +10,7 @@ use lib.ListN.{length, List·getD-eq-default}
 use borrow.Author.Tests.{lt-ltb, le-ltb, le-leb, lt-leb, ltb-true, ltb-false}
 use Rattle.ranges.specs.Ranges.{Table, placeIn, leastIn, greatestIn, between, inRow}
 use Rattle.ranges.specs.Values.{Value, plus, minus, valueOf, signedIn, valueIn, atMost, fromTo}
-use Rattle.ranges.specs.promises.Rule.{Rule, Goes}
+use Rattle.ranges.specs.promises.Tables.{TableRule, Goes}
 use Rattle.ranges.proofs.Below.{parts, each, at}
 use Rattle.ranges.proofs.Between.{is-byte}
 
@@ -46,13 +46,13 @@ signed-range l g b hg hl sl hb = go (ltb b 0x80) (ltb b l) refl refl
         simp (lt-ltb b 256 hb, lt-leb l g (omega arith), le-leb l b c, q, le-ltb l 0x80 hl, lt-ltb g 0x80 hg, le-leb (256 - b) (256 - l) (omega arith))
 
 -- Two values are the same.
-abbrev same : Value → Value → Bool
+abbrev pub same : Value → Value → Bool
 same (plus a) (plus b) = eqb a b
 same (plus a) (minus b) = false
 same (minus a) (plus b) = false
 same (minus a) (minus b) = eqb a b
 
-is-same : (v w : Value) → T (same v w) → v ≡ w
+pub is-same : (v w : Value) → T (same v w) → v ≡ w
 is-same (plus a) (plus b) t = ap plus (eqb→eq a b t)
 is-same (plus a) (minus b) t = absurd t
 is-same (minus a) (plus b) t = absurd t
@@ -118,9 +118,9 @@ module _ (t : Table) where
         go false q s = le-leb _ _ (ltb-false (greatestIn t k) (leastIn t k) q)
 
     -- A table whose rows are right keeps the rule.
-    pub rule : Rule t
+    pub table-rule : TableRule t
     unfolding inRow
-    rule = record {
+    table-rule = record {
       place = λ k h. eqb→eq (placeIn t k) k (row-of k h .0);
       bytes = bounds;
       ordered = ordered;
@@ -131,9 +131,12 @@ module _ (t : Table) where
   abbrev goes : Value → Value → ℕ → Bool
   goes least greatest k = same (valueIn t k (leastIn t k)) least && same (valueIn t k (greatestIn t k)) greatest
 
-  -- Places that lie d apart from place a on: one test of the n of them.
-  pub each-goes : (least greatest : Value) (a d n : ℕ) → T (each (λ i. goes least greatest (a + d * i)) n) → (i : ℕ) → i < n → Goes t (a + d * i) least greatest
-  each-goes least greatest a d n u i h =
-      let k = a + d * i in
-      let both = parts (same (valueIn t k (leastIn t k)) least) (same (valueIn t k (greatestIn t k)) greatest) (at (λ i. goes least greatest (a + d * i)) n u i h) in
+  goes-so : (least greatest : Value) (k : ℕ) → T (goes least greatest k) → Goes t k least greatest
+  goes-so least greatest k u =
+      let both = parts (same (valueIn t k (leastIn t k)) least) _ u in
       (is-same (valueIn t k (leastIn t k)) least (both .0), is-same (valueIn t k (greatestIn t k)) greatest (both .1))
+
+  -- Places that lie d apart from place a on: one test of the n of them.
+  pub each-goes : (least greatest : Value) (a d n : ℕ) → T (each (λ i. goes least greatest (a + d * i)) n) → (i : ℕ) → i < n
+      → Goes t (a + d * i) least greatest
+  each-goes least greatest a d n u i h = goes-so least greatest (a + d * i) (at (λ i. goes least greatest (a + d * i)) n u i h)

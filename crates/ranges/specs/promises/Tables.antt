@@ -6,7 +6,7 @@ use lib.ListN.{length}
 use Rattle.ranges.specs.Ranges.{Table, placeIn, leastIn, greatestIn, inRow}
 use Rattle.ranges.specs.Values.{Value, valueIn, atMost, fromTo}
 
-pub record Rule (t : Table) : Type 0 where
+pub record TableRule (t : Table) : Type 0 where
   -- Each place stands once, at its own row; least and greatest values are bytes.
   pub place : (k : ℕ) → k < length t → placeIn t k ≡ k
   pub bytes : (k : ℕ) → (leastIn t k < 256) × (greatestIn t k < 256)
