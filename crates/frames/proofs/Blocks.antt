@@ -10,7 +10,7 @@ use lib.Dec.{eqb}
 use lib.ListN.{length, drop, getD}
 use borrow.Author.Tests.{eqb-false}
 use borrow.Author.Count.{below-more}
-use Rattle.frames.specs.Bytes.{body}
+use Rattle.streams.specs.Bytes.{body}
 use Rattle.frames.specs.code.Extent.{realTimeIn}
 use Rattle.frames.specs.code.Blocks.{None, Ahead, Onward}
 use Rattle.frames.proofs.Extent.{ahead-other, body-data, real-time-data}

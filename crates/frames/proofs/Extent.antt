@@ -11,10 +11,10 @@ use lib.Dec.{eqb}
 use lib.ListN.{length, getD, drop, drop-of-length-le}
 use lib.Seq.{drop-cons}
 use borrow.Author.Tests.{eq-eqb, ne-eqb}
-use Rattle.frames.specs.Bytes.{dataByte, realTime, ends, body}
+use Rattle.streams.specs.Bytes.{dataByte, realTime, ends, body}
 use Rattle.frames.specs.code.Extent.{realTimeIn}
 use Rattle.frames.specs.code.Extent.{ahead, startAt}
-use Rattle.frames.proofs.Bytes.{kind-is, stays, ends-there, body-on, body-stop}
+use Rattle.streams.proofs.Bytes.{kind-is, stays, ends-there, body-on, body-stop}
 
 -- The byte at an index and what follows it.
 pub split : (s : List ℕ) (i : ℕ) → i < length s → drop i s ≡ getD s i 0 ∷ drop (i + 1) s

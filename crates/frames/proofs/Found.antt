@@ -12,11 +12,11 @@ use lib.ListN.{length, drop, length-drop}
 use lib.Seq.{drop-drop}
 use borrow.Author.Tests.{eq-eqb, ne-eqb, eqb-true}
 use Rattle.answers.specs.Table.{Verdict, refused, outcome}
-use Rattle.frames.specs.Bytes.{body, withoutRealTime, framed}
+use Rattle.streams.specs.Bytes.{body, withoutRealTime, framed}
 use Rattle.frames.specs.code.Extent.{ahead, startAt, endingOf}
-use Rattle.frames.specs.Stream.{report, messageAt, firstFrom, walk}
-use Rattle.frames.proofs.Scan.{further}
-use Rattle.frames.proofs.Walk.{cut-message, closed-message, interrupted-message}
+use Rattle.streams.specs.Stream.{report, messageAt, firstFrom, walk}
+use Rattle.streams.proofs.Scan.{further}
+use Rattle.streams.proofs.Walk.{cut-message, closed-message, interrupted-message}
 
 module _ (judge : List ℕ → Verdict) where
   -- The walk by the count of bytes before the first F0H.

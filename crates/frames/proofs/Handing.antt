@@ -10,13 +10,13 @@ use lib.Dec.{eqb}
 use lib.ListN.{length, drop, getD, drop-of-length-le}
 use borrow.Author.Tests.{eqb-true, eqb-false}
 use Rattle.answers.specs.Table.{Verdict}
-use Rattle.frames.specs.Bytes.{body}
+use Rattle.streams.specs.Bytes.{body}
 use Rattle.frames.specs.code.Extent.{ahead}
-use Rattle.frames.specs.Stream.{messageAt}
-use Rattle.frames.specs.code.Scan.{outside, inside, scan}
+use Rattle.streams.specs.Stream.{messageAt}
+use Rattle.streams.specs.code.Scan.{outside, inside, scan}
 use Rattle.frames.proofs.Extent.{split}
-use Rattle.frames.proofs.Scan.{further, scan-outside}
-use Rattle.frames.proofs.Walk.{scan-cut, scan-closed, scan-again, scan-broken}
+use Rattle.streams.proofs.Scan.{further, scan-outside}
+use Rattle.streams.proofs.Walk.{scan-cut, scan-closed, scan-again, scan-broken}
 
 module _ (judge : List ℕ → Verdict) where
   -- No F0H: no report.

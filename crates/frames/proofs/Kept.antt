@@ -9,10 +9,10 @@ use native.Mathlib.Numerals.{add-one}
 use lib.ListN.{length, getD, take, drop, set, length-append, drop-of-length-le}
 use lib.Seq.{take-suc, take-all, take-append-le, take-append-seam}
 use Rattle.answers.proofs.Lists.{put-next}
-use Rattle.frames.specs.Bytes.{realTime, byteKind, isRealTime, withoutRealTime}
+use Rattle.streams.specs.Bytes.{realTime, byteKind, isRealTime, withoutRealTime}
 use Rattle.frames.specs.code.Extent.{realTimeIn}
 use Rattle.frames.specs.code.Extent.{Kept}
-use Rattle.frames.proofs.Bytes.{kind-is, stays}
+use Rattle.streams.proofs.Bytes.{kind-is, stays}
 
 without-append : (a b : List ℕ) → withoutRealTime (a ++ b) ≡ withoutRealTime a ++ withoutRealTime b
 unfolding withoutRealTime

@@ -1,12 +1,5 @@
-pub mod Bytes
 pub mod Extent
 pub mod Kept
-pub mod Scan
-pub mod Walk
 pub mod Found
-pub mod Order
-pub mod OneByte
 pub mod Handing
 pub mod Blocks
-pub mod Complete
-pub mod Lent

@@ -1,4 +1,1 @@
-pub mod Bytes
-pub mod Stream
 pub mod code
-pub mod promises

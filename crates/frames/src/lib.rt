@@ -7,7 +7,7 @@ ghost use mathlib.Core.Bool.{cond, false};
 ghost use lib.Dec.{eqb};
 ghost use Prim.Native.Nat.{_+_, _≤_};
 ghost use lib.ListN.{length};
-ghost use Rattle.frames.specs.Bytes.{withoutRealTime};
+ghost use Rattle.streams.specs.Bytes.{withoutRealTime};
 ghost use Rattle.frames.specs.code.Extent.{ahead, startAt, spanOf, Kept};
 ghost use Rattle.frames.specs.code.Blocks.{None, Ahead, Onward};
 

@@ -13,7 +13,7 @@ use Rattle.answers.specs.Table.{Row, refused, first, outcome, four}
 use Rattle.answers.specs.Effect.{tested}
 use Rattle.answers.proofs.Rows.{Refusals, first-passed, first-stopped}
 use Rattle.answers.proofs.Effects.{passed}
-use Rattle.frames.specs.Bytes.{framed}
+use Rattle.streams.specs.Bytes.{framed}
 use Rattle.messages.specs.declared.kinds.Dump.{Dump}
 use Rattle.messages.specs.declared.kinds.Kind.{Kind}
 use Rattle.messages.specs.declared.kinds.Kind.the-variants.{Dump as ofDump, Short as ofShort}

@@ -21,7 +21,7 @@ ghost use lib.Dec.{T};
 ghost use lib.ListN.{length, getD};
 ghost use Rattle.answers.specs.Effect.{tested};
 ghost use Rattle.fields.specs.Fields.{size};
-ghost use Rattle.frames.specs.Bytes.{framed};
+ghost use Rattle.streams.specs.Bytes.{framed};
 ghost use Rattle.messages.specs.declared.kinds.Kind.the-variants.{Dump as ofDump};
 ghost use Rattle.messages.specs.declared.kinds.Packed.the-variants.{Patch as aPatch};
 ghost use Rattle.messages.specs.Kinds.{sizeOf, master};

@@ -14,7 +14,7 @@ use messages::kinds::MAKER;
 use messages::kinds::kind_of;
 ghost use mathlib.Core.Path.{_≡_};
 ghost use Rattle.answers.specs.Table.{outcome};
-ghost use Rattle.frames.specs.Bytes.{framed};
+ghost use Rattle.streams.specs.Bytes.{framed};
 ghost use Rattle.messages.specs.Kinds.{kindOf};
 ghost use Rattle.messages.specs.Judge.{judge};
 ghost use Rattle.judging.specs.code.Judged.{kindVerdict, judged, judgedAs, refusedBy};

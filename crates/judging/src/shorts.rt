@@ -15,7 +15,7 @@ ghost use lib.Dec.{T};
 ghost use lib.ListN.{getD};
 ghost use Rattle.answers.specs.Effect.{tested};
 ghost use Rattle.answers.specs.Table.{four};
-ghost use Rattle.frames.specs.Bytes.{framed};
+ghost use Rattle.streams.specs.Bytes.{framed};
 ghost use Rattle.messages.specs.declared.kinds.Kind.the-variants.{Short as ofShort};
 ghost use Rattle.messages.specs.code.Sizes.{sized};
 ghost use Rattle.messages.specs.Judge.{lentOperandRows};

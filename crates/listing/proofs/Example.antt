@@ -1,8 +1,8 @@
 -- It is computed.
 use mathlib.Core.Path.{refl}
 use Rattle.text.specs.Text.{ascii, digitsOf, row}
-use Rattle.frames.specs.Bytes.{body, withoutRealTime, byteKind}
-use Rattle.frames.specs.Stream.{reports, walk, firstFrom, messageAt}
+use Rattle.streams.specs.Bytes.{body, withoutRealTime, byteKind}
+use Rattle.streams.specs.Stream.{reports, walk, firstFrom, messageAt}
 use Rattle.ranges.specs.Ranges.{inRow, between}
 use Rattle.fields.specs.Fields.{fields, placeOf, searchFrom}
 use Rattle.edits.specs.Edits.{editRows, storedFor, extended}

@@ -8,7 +8,7 @@ use lib.ListN.{length, take, drop, length-append}
 use lib.Seq.{drop-drop}
 use Rattle.text.specs.Text.{ascii, row, followed}
 use Rattle.text.proofs.Rows.{followed-most, row-most}
-use Rattle.frames.specs.Stream.{Report}
+use Rattle.streams.specs.Stream.{Report}
 use Rattle.reading.specs.code.Rooms.{width, numbersOf, flat}
 use Rattle.listing.specs.Listing.{lines, total}
 use Rattle.listing.specs.code.Pieces.{leftBehind, leastRoom}

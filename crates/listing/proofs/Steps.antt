@@ -9,9 +9,9 @@ use borrow.Author.Tests.{le-leb, lt-leb}
 use Rattle.io.specs.Counts.{Counts}
 use Rattle.text.specs.Text.{Puts}
 use Rattle.text.proofs.Puts.{after, puts-none, puts-then, puts-whole, puts-counts}
-use Rattle.frames.specs.Stream.{Report}
-use Rattle.frames.specs.code.Scan.{outside, scan}
-use Rattle.frames.proofs.Walk.{reports-scan}
+use Rattle.streams.specs.Stream.{Report}
+use Rattle.streams.specs.code.Scan.{outside, scan}
+use Rattle.streams.proofs.Walk.{reports-scan}
 use Rattle.messages.specs.Judge.{judge}
 use Rattle.reading.specs.code.Rooms.{width, made, Makes}
 use Rattle.reading.specs.declared.listing.Listed.{Listed}

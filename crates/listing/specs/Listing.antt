@@ -5,7 +5,7 @@ use Prim.Native.Nat.{ℕ}
 use lib.Dec.{leb}
 use lib.ListN.{length}
 use Rattle.text.specs.Text.{ascii, followed, row}
-use Rattle.frames.specs.Stream.{Report, reports}
+use Rattle.streams.specs.Stream.{Report, reports}
 use Rattle.messages.specs.Judge.{judge}
 use Rattle.reading.specs.code.Rooms.{numbersOf}
 

@@ -9,7 +9,7 @@ use lib.ListN.{length, take, drop, getD}
 use Rattle.answers.specs.Table.{done, answerOf}
 use Rattle.answers.proofs.Rows.{first-passed, zero-silent, row-silent, row-at-silent, row-equal}
 use Rattle.answers.specs.promises.Decides.{Silent}
-use Rattle.frames.specs.Bytes.{framed}
+use Rattle.streams.specs.Bytes.{framed}
 use Rattle.nibbles.specs.Nibbles.{pack, firstWide, wideFrom}
 use Rattle.messages.specs.Kinds.{Kind, ofDump, ofShort, unknown, kindOf, Filed, sizeOf, lengthOf, isUnknown, countOf}
 use Rattle.messages.specs.code.Sizes.{packedSize}

@@ -11,7 +11,7 @@ use borrow.Author.Tests.{eq-eqb}
 use Rattle.answers.specs.Table.{Verdict, done, refused, outcome, answerOf}
 use Rattle.answers.proofs.Rows.{done-passed, row-silent, row-equal}
 use Rattle.answers.specs.promises.Decides.{Silent}
-use Rattle.frames.specs.Bytes.{framed}
+use Rattle.streams.specs.Bytes.{framed}
 use Rattle.nibbles.specs.Nibbles.{nibbles, pack, sum}
 use Rattle.nibbles.proofs.Laws.{length-pack, nibbles-pack}
 use Rattle.messages.specs.Kinds.{Dump, Short, Kind, ofDump, ofShort, unknown, opcodeOf, kindOf, Filed, lengthOf, isUnknown, countOf}

@@ -5,7 +5,7 @@ use Prim.Native.Nat.{ℕ, suc, _+_, _*_, _<_, _≤_}
 use native.Mathlib.Omega.{arith}
 use lib.ListN.{length, take, drop, getD, length-append, length-drop, List·getD-append}
 use lib.Seq.{append-snoc, take-append-le, drop-append-le, getD-append-seam}
-use Rattle.frames.specs.Bytes.{framed}
+use Rattle.streams.specs.Bytes.{framed}
 use Rattle.messages.specs.Judge.{byteAt, dataOf, sumOf, bytesFrom}
 
 pub framed-length : (c : List ℕ) → length (framed c) ≡ length c + 2

@@ -10,7 +10,7 @@ use lib.ListN.{length, take}
 use lib.Seq.{take-all, length-take-le, getD-take}
 use borrow.Author.Tests.{ne-eqb}
 use Rattle.answers.specs.Table.{row, refused, first, outcome}
-use Rattle.frames.specs.Bytes.{framed}
+use Rattle.streams.specs.Bytes.{framed}
 use Rattle.messages.specs.Kinds.{kindOf, lengthOf, isUnknown}
 use Rattle.messages.specs.Judge.{byteAt, judge}
 use Rattle.messages.proofs.Filed.{longest}

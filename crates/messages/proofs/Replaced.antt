@@ -13,7 +13,7 @@ use Rattle.answers.specs.Table.{answerOf}
 use Rattle.answers.proofs.Lists.{all-at}
 use Rattle.answers.proofs.Rows.{row-at-silent}
 use Rattle.answers.specs.promises.Decides.{Silent}
-use Rattle.frames.specs.Bytes.{framed}
+use Rattle.streams.specs.Bytes.{framed}
 use Rattle.nibbles.specs.Nibbles.{nibbles, pack, sum}
 use Rattle.nibbles.proofs.Laws.{length-nibbles, pack-nibbles, pack-low, pack-high, low-changes-sum, high-changes-sum}
 use Rattle.nibbles.proofs.Laws.{Position, at-low, at-high, at-sum, position, no-tail}

@@ -14,7 +14,7 @@ use Rattle.answers.specs.Table.{done}
 use Rattle.answers.proofs.Lists.{all-append, all-weaken}
 use Rattle.answers.proofs.Rows.{first-passed, row-silent, row-equal, row-at-silent}
 use Rattle.answers.specs.promises.Decides.{Silent}
-use Rattle.frames.specs.Bytes.{framed}
+use Rattle.streams.specs.Bytes.{framed}
 use Rattle.nibbles.specs.Nibbles.{nibbles, sum}
 use Rattle.nibbles.proofs.Laws.{nibbles-narrow, sum-below}
 use Rattle.ranges.specs.Ranges.{Table, outBy}

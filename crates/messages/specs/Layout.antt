@@ -5,7 +5,7 @@ use Prim.Native.Nat.{ℕ}
 use lib.Dec.{eqb}
 use lib.ListN.{length, getD}
 use Rattle.answers.specs.Table.{Row, row, Verdict, done}
-use Rattle.frames.specs.Bytes.{framed}
+use Rattle.streams.specs.Bytes.{framed}
 use Rattle.nibbles.specs.Nibbles.{nibbles, sum}
 use Rattle.messages.specs.Kinds.{maker, device, Behind, numberTo, always, Dump, Kind, ofDump, ofShort, unknown, opcodeOf, sizeOf}
 use Rattle.messages.specs.Judge.{misnumbered, packedRows, lentOperandRows}

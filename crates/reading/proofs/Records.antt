@@ -9,7 +9,7 @@ use borrow.Author.Tests.{le-leb, lt-leb}
 use Rattle.answers.specs.Table.{Verdict, done, refused, outcome, four}
 use Rattle.answers.specs.Effect.{Gives}
 use Rattle.answers.specs.declared.Outcome.{Outcome}
-use Rattle.frames.specs.Bytes.{framed}
+use Rattle.streams.specs.Bytes.{framed}
 use Rattle.nibbles.specs.Nibbles.{pack, packing}
 use Rattle.nibbles.proofs.Laws.{length-pack, packing-done}
 use Rattle.messages.specs.Judge.{judge}

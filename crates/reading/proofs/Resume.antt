@@ -9,10 +9,10 @@ use native.Mathlib.Omega.{arith}
 use lib.ListN.{length, take, drop, length-append, length-drop, drop-of-length-le}
 use lib.Seq.{take-nil, take-all, take-take, drop-drop}
 use Rattle.answers.specs.Lists.{All}
-use Rattle.frames.specs.Stream.{Report}
-use Rattle.frames.specs.code.Scan.{outside, scan}
-use Rattle.frames.specs.promises.Order.{InOrder}
-use Rattle.frames.proofs.Walk.{Walked, nothing, message, walked, reports-scan, scan-order}
+use Rattle.streams.specs.Stream.{Report}
+use Rattle.streams.specs.code.Scan.{outside, scan}
+use Rattle.streams.specs.promises.Order.{InOrder}
+use Rattle.streams.proofs.Walk.{Walked, nothing, message, walked, reports-scan, scan-order}
 use Rattle.messages.specs.Judge.{judge}
 use Rattle.reading.specs.code.Rooms.{width, endOf, most, made, Makes, reportsByCalls, CallsMakeReports}
 use Rattle.reading.specs.declared.listing.Listed.{Listed}

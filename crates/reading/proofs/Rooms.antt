@@ -7,9 +7,9 @@ use lib.ListN.{length, take, drop, getD, length-drop, take-append-drop, drop-of-
 use lib.Seq.{take-nil, take-all, take-take, length-take-le, drop-append-le, getD-append-add}
 use borrow.Rule.Slice.PartMut.{putMid}
 use Rattle.answers.proofs.Lists.{to-end, then-part}
-use Rattle.frames.specs.Bytes.{body}
-use Rattle.frames.specs.Stream.{Report, messageAt}
-use Rattle.frames.specs.code.Scan.{State, outside, inside, scan}
+use Rattle.streams.specs.Bytes.{body}
+use Rattle.streams.specs.Stream.{Report, messageAt}
+use Rattle.streams.specs.code.Scan.{State, outside, inside, scan}
 use Rattle.messages.specs.Judge.{judge}
 use Rattle.reading.specs.code.Rooms.{numbersOf, width, flat, fitting, Holds, endOf, most, made, Makes}
 use Rattle.reading.specs.code.Told.{reportOf}

@@ -7,12 +7,12 @@ use lib.ListN.{length, take, drop, length-drop}
 use lib.Seq.{length-take-le}
 use Rattle.answers.specs.Table.{outcome, four}
 use Rattle.answers.specs.Effect.{Gives}
-use Rattle.frames.specs.Bytes.{body, withoutRealTime, framed}
+use Rattle.streams.specs.Bytes.{body, withoutRealTime, framed}
 use Rattle.frames.specs.code.Extent.{realTimeIn}
 use Rattle.frames.specs.code.Extent.{spanOf, endingOf}
-use Rattle.frames.specs.Stream.{messageAt}
+use Rattle.streams.specs.Stream.{messageAt}
 use Rattle.frames.specs.declared.Span.{Span}
-use Rattle.frames.proofs.Bytes.{body-within, body-take}
+use Rattle.streams.proofs.Bytes.{body-within, body-take}
 use Rattle.frames.proofs.Found.{message-refused, message-complete}
 use Rattle.messages.specs.Judge.{judge}
 use Rattle.judging.specs.code.Judged.{judged}

@@ -5,7 +5,7 @@ ghost use mathlib.Core.Path.{_≡_};
 ghost use mathlib.Core.List.{[], _∷_, _++_};
 ghost use Prim.Native.Nat.{_+_, _^_, _<_, _≤_};
 ghost use lib.ListN.{length, drop};
-ghost use Rattle.frames.specs.code.Scan.{outside, scan};
+ghost use Rattle.streams.specs.code.Scan.{outside, scan};
 ghost use Rattle.messages.specs.Judge.{judge};
 ghost use Rattle.reading.specs.code.Rooms.{width, fitting, reportsInside, made, Holds, Makes};
 

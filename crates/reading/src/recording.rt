@@ -16,7 +16,7 @@ ghost use Prim.Native.Nat.{_+_, _^_, _<_};
 ghost use lib.ListN.{length};
 ghost use Rattle.answers.specs.Effect.{Gives};
 ghost use Rattle.answers.specs.Table.{four};
-ghost use Rattle.frames.specs.Bytes.{framed, withoutRealTime};
+ghost use Rattle.streams.specs.Bytes.{framed, withoutRealTime};
 ghost use Rattle.frames.specs.code.Extent.{realTimeIn};
 ghost use Rattle.frames.specs.code.Extent.{spanOf};
 ghost use Rattle.messages.specs.Judge.{judge};

@@ -20,10 +20,10 @@ use Rattle.answers.proofs.Rows.{Refusals, numberOf, Heard, nothing, something, 
 use Rattle.answers.proofs.Rows.{passed-over, done-passed, given-first, first-given, row-equal, first-number, tested-passed, decides}
 use Rattle.answers.proofs.Effects.{changed-decides, changed-keeps, written-decides, written-keeps}
 use Rattle.answers.specs.promises.Decides.{Decides, Keeps, Silent}
-use Rattle.frames.specs.Bytes.{body}
-use Rattle.frames.specs.Stream.{Report, Reading, packedIn, readInto, readReport, messageAt, firstFrom, walk, read, reports}
-use Rattle.frames.proofs.Walk.{reread}
-use Rattle.frames.proofs.Lent.{reading-keeps}
+use Rattle.streams.specs.Bytes.{body}
+use Rattle.streams.specs.Stream.{Report, Reading, packedIn, readInto, readReport, messageAt, firstFrom, walk, read, reports}
+use Rattle.streams.proofs.Walk.{reread}
+use Rattle.streams.proofs.Lent.{reading-keeps}
 use Rattle.nibbles.specs.Nibbles.{nibbles, pack, nibbleRows, packing, unpacking}
 use Rattle.patch.specs.Patch.{fieldRows, patchRows}
 use Rattle.patch.proofs.Tests.{field-refusals, patch-refusals}

@@ -19,13 +19,13 @@ use Rattle.answers.specs.Effect.{written}
 use Rattle.answers.proofs.Lists.{all-weaken}
 use Rattle.answers.proofs.Rows.{done-passed}
 use Rattle.answers.specs.promises.Decides.{Silent}
-use Rattle.frames.specs.Stream.{Report, report, reports}
-use Rattle.frames.specs.code.Scan.{outside, inside, scan}
-use Rattle.frames.specs.promises.Order.{InOrder}
-use Rattle.frames.proofs.Scan.{ahead, scan-exclusive, scan-outside}
-use Rattle.frames.proofs.Walk.{reports-scan, reports-order}
-use Rattle.frames.proofs.Order.{order-from}
-use Rattle.frames.proofs.Complete.{data-bytes, scan-framed}
+use Rattle.streams.specs.Stream.{Report, report, reports}
+use Rattle.streams.specs.code.Scan.{outside, inside, scan}
+use Rattle.streams.specs.promises.Order.{InOrder}
+use Rattle.streams.proofs.Scan.{ahead, scan-exclusive, scan-outside}
+use Rattle.streams.proofs.Walk.{reports-scan, reports-order}
+use Rattle.streams.proofs.Order.{order-from}
+use Rattle.streams.proofs.Complete.{data-bytes, scan-framed}
 use Rattle.patch.specs.Patch.{fieldRows}
 use Rattle.messages.specs.declared.kinds.Kind.{Kind}
 use Rattle.messages.specs.declared.kinds.Kind.the-variants.{Dump as ofDump}

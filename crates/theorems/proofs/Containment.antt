@@ -10,12 +10,12 @@ use lib.ListN.{length, length-append}
 use Rattle.answers.specs.Lists.{All}
 use Rattle.answers.specs.Table.{Verdict}
 use Rattle.answers.proofs.Lists.{all-weaken}
-use Rattle.frames.specs.Bytes.{framed}
-use Rattle.frames.specs.Stream.{Report, report, reports}
-use Rattle.frames.specs.code.Scan.{outside, inside, scan}
-use Rattle.frames.proofs.Scan.{ahead, scan-exclusive}
-use Rattle.frames.proofs.Walk.{reports-scan, scan-order}
-use Rattle.frames.proofs.Order.{order-from, ahead-before}
+use Rattle.streams.specs.Bytes.{framed}
+use Rattle.streams.specs.Stream.{Report, report, reports}
+use Rattle.streams.specs.code.Scan.{outside, inside, scan}
+use Rattle.streams.proofs.Scan.{ahead, scan-exclusive}
+use Rattle.streams.proofs.Walk.{reports-scan, scan-order}
+use Rattle.streams.proofs.Order.{order-from, ahead-before}
 use Rattle.messages.specs.Judge.{judge}
 use Rattle.theorems.specs.Damage.{countedBack, readingBack, readings, stream, reportsBefore, reportsOfDump, reportsAfter, Contained}
 use Rattle.theorems.proofs.Parts.{Parted, parted}

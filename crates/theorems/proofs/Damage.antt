@@ -13,11 +13,11 @@ use Rattle.answers.specs.Table.{Verdict, done, answerOf, outcome}
 use Rattle.answers.proofs.Lists.{all-append, all-left, all-right, all-weaken}
 use Rattle.answers.proofs.Rows.{row-silent, row-equal}
 use Rattle.answers.proofs.Effects.{passed}
-use Rattle.frames.specs.Bytes.{dataByte, framed}
-use Rattle.frames.specs.Stream.{report}
-use Rattle.frames.proofs.Bytes.{kind-is, not-real-time}
-use Rattle.frames.proofs.Scan.{DataByte}
-use Rattle.frames.proofs.OneByte.{Only, closed, one-byte, scan-close}
+use Rattle.streams.specs.Bytes.{dataByte, framed}
+use Rattle.streams.specs.Stream.{report}
+use Rattle.streams.proofs.Bytes.{kind-is, not-real-time}
+use Rattle.streams.proofs.Scan.{DataByte}
+use Rattle.streams.proofs.OneByte.{Only, closed, one-byte, scan-close}
 use Rattle.nibbles.specs.Nibbles.{nibbles, sum}
 use Rattle.nibbles.proofs.Laws.{length-nibbles, nibbles-narrow, sum-below}
 use Rattle.fields.specs.Fields.{fields}

@@ -9,7 +9,7 @@ use lib.Dec.{leb, ltb}
 use borrow.Author.Tests.{lt-ltb, le-ltb, le-leb, lt-leb}
 use Rattle.answers.specs.Lists.{All}
 use Rattle.answers.proofs.Lists.{all-weaken}
-use Rattle.frames.specs.Stream.{Report}
+use Rattle.streams.specs.Stream.{Report}
 use Rattle.theorems.specs.Damage.{keep, startBefore, startWithin, startFrom}
 
 -- What holds of every report holds of those that are kept.

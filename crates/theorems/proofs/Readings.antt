@@ -12,10 +12,10 @@ use lib.ListN.{length, drop}
 use Rattle.answers.specs.Lists.{All}
 use Rattle.answers.specs.Table.{Verdict, done, refused, outcome, answerOf}
 use Rattle.answers.specs.Effect.{Effect}
-use Rattle.frames.specs.Stream.{Report, Reading, reading, readInto, walk, read, reports}
-use Rattle.frames.specs.code.Scan.{outside, scan}
-use Rattle.frames.proofs.Scan.{move, scan-moved}
-use Rattle.frames.proofs.Walk.{reread}
+use Rattle.streams.specs.Stream.{Report, Reading, reading, readInto, walk, read, reports}
+use Rattle.streams.specs.code.Scan.{outside, scan}
+use Rattle.streams.proofs.Scan.{move, scan-moved}
+use Rattle.streams.proofs.Walk.{reread}
 use Rattle.messages.specs.Judge.{judge}
 use Rattle.theorems.specs.Damage.{keep, countedBack, readingBack, readings, Spoilt}
 use Rattle.theorems.proofs.Parts.{all-keep}

@@ -15,11 +15,11 @@ use Rattle.answers.specs.Lists.{All}
 use Rattle.answers.specs.Table.{Verdict, done, refused, answerOf}
 use Rattle.answers.specs.Effect.{Effect}
 use Rattle.answers.proofs.Lists.{all-weaken}
-use Rattle.frames.specs.Bytes.{framed}
-use Rattle.frames.specs.Stream.{Report, report, readInto, readReport, walk, reports, read}
-use Rattle.frames.proofs.Walk.{reread}
-use Rattle.frames.proofs.OneByte.{scan-close}
-use Rattle.frames.proofs.Complete.{data-bytes, walk-framed, complete}
+use Rattle.streams.specs.Bytes.{framed}
+use Rattle.streams.specs.Stream.{Report, report, readInto, readReport, walk, reports, read}
+use Rattle.streams.proofs.Walk.{reread}
+use Rattle.streams.proofs.OneByte.{scan-close}
+use Rattle.streams.proofs.Complete.{data-bytes, walk-framed, complete}
 use Rattle.names.proofs.Laws.{set-then-shown, shown-then-set}
 use Rattle.edits.proofs.Laws.{edit-done, bus-done, edit-own-field, bus-own-field}
 use Rattle.messages.specs.declared.kinds.Kind.{Kind}

@@ -7,7 +7,7 @@ use Rattle.answers.specs.Lists.{All}
 use Rattle.answers.specs.Table.{Verdict}
 use Rattle.answers.proofs.Effects.{written-done, written-fits}
 use Rattle.answers.specs.promises.Decides.{Silent}
-use Rattle.frames.specs.Bytes.{framed}
+use Rattle.streams.specs.Bytes.{framed}
 use Rattle.messages.specs.declared.kinds.Kind.{Kind}
 use Rattle.messages.specs.Judge.{judge}
 use Rattle.messages.specs.Layout.{message, recordFor, givenRows}

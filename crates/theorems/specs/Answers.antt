@@ -13,8 +13,8 @@ use Rattle.answers.specs.Lists.{All}
 use Rattle.answers.specs.Table.{Row, row, Verdict, outcome, outcomeOf, four}
 use Rattle.answers.specs.Effect.{tested}
 use Rattle.answers.specs.promises.Decides.{Decides, Keeps}
-use Rattle.frames.specs.Bytes.{body, withoutRealTime, framed}
-use Rattle.frames.specs.Stream.{packedIn, reports}
+use Rattle.streams.specs.Bytes.{body, withoutRealTime, framed}
+use Rattle.streams.specs.Stream.{packedIn, reports}
 use Rattle.nibbles.specs.Nibbles.{nibbles, pack, nibbleRows, packing, unpacking}
 use Rattle.ranges.specs.Ranges.{Table, countedRows}
 use Rattle.fields.specs.Fields.{size}

@@ -9,7 +9,7 @@ use lib.ListN.{length, take, drop, getD}
 use Rattle.answers.specs.Lists.{All}
 use Rattle.answers.specs.Table.{Verdict, answerOf, outcome}
 use Rattle.answers.specs.Effect.{Effect, tested}
-use Rattle.frames.specs.Stream.{Report, report, Reading, reading, reports, read}
+use Rattle.streams.specs.Stream.{Report, report, Reading, reading, reports, read}
 use Rattle.messages.specs.declared.kinds.Dump.{Dump}
 use Rattle.messages.specs.declared.kinds.Kind.the-variants.{Dump as ofDump}
 use Rattle.messages.specs.declared.kinds.Packed.the-variants.{Patch as aPatch}

@@ -9,8 +9,8 @@ use Rattle.answers.specs.declared.Outcome.{Outcome}
 use Rattle.answers.specs.Lists.{All}
 use Rattle.answers.specs.Table.{Verdict, done, outcome, answerOf}
 use Rattle.answers.specs.Effect.{Effect}
-use Rattle.frames.specs.Bytes.{withoutRealTime}
-use Rattle.frames.specs.Stream.{Report, report, Reading, reading, walk, reports, read}
+use Rattle.streams.specs.Bytes.{withoutRealTime}
+use Rattle.streams.specs.Stream.{Report, report, Reading, reading, walk, reports, read}
 use Rattle.fields.specs.Fields.{size}
 use Rattle.names.specs.Names.{naming, showing}
 use Rattle.edits.specs.Edits.{applying, applyingBus}

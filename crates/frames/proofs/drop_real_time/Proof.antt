@@ -5,7 +5,7 @@ use Prim.Native.Nat.{ℕ, _<_, _≤_, _+_, _-_}
 use native.Mathlib.Omega.{arith}
 use lib.ListN.{length, take, set, length-set, length-append, getD}
 use lib.Seq.{take-all, take-nil}
-use Rattle.frames.specs.Bytes.{withoutRealTime}
+use Rattle.streams.specs.Bytes.{withoutRealTime}
 use Rattle.frames.specs.code.Extent.{Kept}
 use Rattle.frames.proofs.Kept.{without-dropped, without-kept, kept-more, kept-full}
 use Rattle.frames.proofs.drop_real_time.Statement.{statement}

@@ -5,7 +5,7 @@ use mathlib.Core.List.{List, []}
 use Prim.Native.Nat.{ℕ, _≤_, _+_, _-_}
 use native.Mathlib.Omega.{arith}
 use lib.ListN.{length, drop, getD, drop-of-length-le}
-use Rattle.frames.specs.Bytes.{body}
+use Rattle.streams.specs.Bytes.{body}
 use Rattle.frames.specs.code.Extent.{realTimeIn}
 use Rattle.frames.specs.code.Extent.{spanOf, endingOf}
 use Rattle.frames.specs.declared.Span.{Span}

@@ -3,7 +3,7 @@ use mathlib.Core.Path.{_≡_}
 use mathlib.Core.List.{List}
 use Prim.Native.Nat.{ℕ, _+_, _<_, _≤_}
 use lib.ListN.{length, drop, getD}
-use Rattle.frames.specs.Bytes.{body}
+use Rattle.streams.specs.Bytes.{body}
 use Rattle.frames.specs.code.Extent.{realTimeIn, ahead}
 
 -- None of the n bytes from index i on has a property.

@@ -5,7 +5,7 @@ use mathlib.Core.List.{List, [], _∷_, _++_}
 use Prim.Native.Nat.{ℕ, suc, _+_}
 use lib.Dec.{eqb}
 use lib.ListN.{length, take, drop}
-use Rattle.frames.specs.Bytes.{isRealTime, byteKind, body}
+use Rattle.streams.specs.Bytes.{isRealTime, byteKind, body}
 use Rattle.frames.specs.declared.Span.{Span}
 
 -- How many bytes F8H..FFH stand in a list.

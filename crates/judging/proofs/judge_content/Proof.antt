@@ -3,7 +3,7 @@ use mathlib.Core.Path.{_≡_, _∙_, sym}
 use native.Mathlib.Omega.{arith}
 use lib.ListN.{getD}
 use borrow.Author.Needs.{needs}
-use Rattle.frames.specs.Bytes.{framed}
+use Rattle.streams.specs.Bytes.{framed}
 use Rattle.messages.specs.Judge.{byteAt}
 use Rattle.messages.specs.Kinds.{kindOf}
 use Rattle.messages.proofs.Content.{framed-byte, framed-end}

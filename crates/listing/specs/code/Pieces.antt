@@ -5,8 +5,8 @@ use mathlib.Core.List.{List, [], _∷_, _++_}
 use Prim.Native.Nat.{ℕ, _+_, _*_, _-_, _≤_, _<_}
 use lib.Dec.{leb}
 use lib.ListN.{length, take, drop}
-use Rattle.frames.specs.Stream.{Report}
-use Rattle.frames.specs.code.Scan.{outside, scan}
+use Rattle.streams.specs.Stream.{Report}
+use Rattle.streams.specs.code.Scan.{outside, scan}
 use Rattle.messages.specs.Judge.{judge}
 use Rattle.reading.specs.code.Rooms.{width, most as reportsMost}
 use Rattle.listing.specs.Listing.{lines, total, listingOf}

@@ -5,8 +5,8 @@ use Prim.Native.Nat.{ℕ, suc, _*_, _/_, _≤_}
 use lib.ListN.{length, take, drop}
 use Rattle.answers.specs.Lists.{All}
 use Rattle.answers.specs.Table.{outcomeOf}
-use Rattle.frames.specs.Stream.{Report, reports}
-use Rattle.frames.specs.code.Scan.{outside, inside, scan}
+use Rattle.streams.specs.Stream.{Report, reports}
+use Rattle.streams.specs.code.Scan.{outside, inside, scan}
 use Rattle.messages.specs.Judge.{judge}
 use Rattle.reading.specs.declared.listing.Listed.{Listed}
 

@@ -7,7 +7,7 @@ use lib.ListN.{length, take}
 use Rattle.answers.specs.declared.Outcome.{Outcome}
 use Rattle.answers.specs.Table.{Verdict, outcome, outcomeOf, four}
 use Rattle.answers.specs.Effect.{Effect, toldAs}
-use Rattle.frames.specs.Stream as stream
+use Rattle.streams.specs.Stream as stream
 use Rattle.messages.specs.Judge.{judge}
 use Rattle.reading.specs.declared.recording.Reading.{Reading}
 use Rattle.reading.specs.declared.walking.Report.{Report}

@@ -9,9 +9,9 @@ use borrow.Author.Needs.{needs}
 use borrow.Fn.Kinds.{In}
 use borrow.Fn.PlainCycle.{Measures, is, falls, and}
 use Rattle.answers.proofs.Lists.{to-end}
-use Rattle.frames.specs.Bytes.{body}
-use Rattle.frames.specs.Stream.{Report, messageAt}
-use Rattle.frames.specs.code.Scan.{outside, inside}
+use Rattle.streams.specs.Bytes.{body}
+use Rattle.streams.specs.Stream.{Report, messageAt}
+use Rattle.streams.specs.code.Scan.{outside, inside}
 use Rattle.frames.proofs.Handing.{outside-none, outside-found, inside-again, inside-left, inside-cut}
 use Rattle.messages.specs.Judge.{judge}
 use Rattle.reading.specs.code.Rooms.{numbersOf, width}

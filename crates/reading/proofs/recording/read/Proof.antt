@@ -6,7 +6,7 @@ use native.Mathlib.Numerals.{add-one}
 use lib.ListN.{length, length-drop}
 use borrow.Author.Needs.{needs}
 use Rattle.answers.proofs.Lists.{to-end}
-use Rattle.frames.specs.Stream.{read}
+use Rattle.streams.specs.Stream.{read}
 use Rattle.frames.proofs.Found.{walk-none, walk-found}
 use Rattle.messages.specs.Judge.{judge}
 use Rattle.reading.proofs.recording.read.Statement.{statement}

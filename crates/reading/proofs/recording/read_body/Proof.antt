@@ -3,7 +3,7 @@ use mathlib.Core.Path.{sym, _∙_}
 use native.Mathlib.Omega.{arith}
 use lib.Seq.{length-take-le}
 use borrow.Author.Needs.{needs}
-use Rattle.frames.specs.Bytes.{withoutRealTime}
+use Rattle.streams.specs.Bytes.{withoutRealTime}
 use Rattle.frames.proofs.Kept.{without-none}
 use Rattle.messages.proofs.Long.{judge-first}
 use Rattle.reading.proofs.recording.read_body.Statement.{statement}

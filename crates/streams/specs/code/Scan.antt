@@ -2,8 +2,8 @@
 use mathlib.Core.List.{List, [], _∷_, _++_}
 use Prim.Native.Nat.{ℕ, suc}
 use Rattle.answers.specs.Table.{Verdict, refused, outcome}
-use Rattle.frames.specs.Bytes.{ByteKind, dataByte, exclusive, endOfExclusive, otherStatus, realTime, byteKind, framed}
-use Rattle.frames.specs.Stream.{Report, report}
+use Rattle.streams.specs.Bytes.{ByteKind, dataByte, exclusive, endOfExclusive, otherStatus, realTime, byteKind, framed}
+use Rattle.streams.specs.Stream.{Report, report}
 
 -- Inside a message: where it started, and its bytes so far behind F0H, real time dropped.
 pub data State : Type 0 where

@@ -8,11 +8,11 @@ use lib.ListN.{length, length-append}
 use Rattle.answers.specs.Lists.{All}
 use Rattle.answers.specs.Table.{Verdict, refused, outcome}
 use Rattle.answers.proofs.Lists.{all-append}
-use Rattle.frames.specs.Bytes.{ByteKind, dataByte, exclusive, endOfExclusive, otherStatus, realTime, byteKind, framed}
-use Rattle.frames.specs.Stream.{Report, report}
-use Rattle.frames.specs.code.Scan.{outside, inside, scan}
-use Rattle.frames.proofs.Bytes.{kind-is}
-use Rattle.frames.proofs.Scan.{DataByte, scan-data, skip-data}
+use Rattle.streams.specs.Bytes.{ByteKind, dataByte, exclusive, endOfExclusive, otherStatus, realTime, byteKind, framed}
+use Rattle.streams.specs.Stream.{Report, report}
+use Rattle.streams.specs.code.Scan.{outside, inside, scan}
+use Rattle.streams.proofs.Bytes.{kind-is}
+use Rattle.streams.proofs.Scan.{DataByte, scan-data, skip-data}
 
 module _ (judge : List ℕ → Verdict) where
   -- Data bytes and F7H inside a message close it.

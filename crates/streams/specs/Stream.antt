@@ -9,7 +9,7 @@ use lib.ListN.{length, drop}
 use Rattle.answers.specs.declared.Outcome.{Outcome}
 use Rattle.answers.specs.Table.{Verdict, done, refused, outcome}
 use Rattle.answers.specs.Effect.{Effect}
-use Rattle.frames.specs.Bytes.{body, withoutRealTime, framed}
+use Rattle.streams.specs.Bytes.{body, withoutRealTime, framed}
 
 -- A report: where a message starts and ends, and what it comes to.
 pub record Report : Type 0 where

@@ -12,10 +12,10 @@ use lib.Seq.{append-snoc}
 use borrow.Author.Tests.{eq-eqb, ne-eqb}
 use Rattle.answers.specs.Lists.{All}
 use Rattle.answers.specs.Table.{Verdict}
-use Rattle.frames.specs.Bytes.{ByteKind, dataByte, exclusive, endOfExclusive, otherStatus, realTime, byteKind}
-use Rattle.frames.specs.Stream.{Report, report}
-use Rattle.frames.specs.code.Scan.{State, outside, inside, next, emit, scan}
-use Rattle.frames.proofs.Bytes.{Lies, lies, kind-is}
+use Rattle.streams.specs.Bytes.{ByteKind, dataByte, exclusive, endOfExclusive, otherStatus, realTime, byteKind}
+use Rattle.streams.specs.Stream.{Report, report}
+use Rattle.streams.specs.code.Scan.{State, outside, inside, next, emit, scan}
+use Rattle.streams.proofs.Bytes.{Lies, lies, kind-is}
 
 -- One place further, and n after it.
 pub further : (p n : ℕ) → p + suc n ≡ suc p + n

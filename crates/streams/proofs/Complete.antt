@@ -14,14 +14,14 @@ use borrow.Author.Tests.{eqb-true, eqb-false}
 use Rattle.answers.specs.Lists.{All}
 use Rattle.answers.specs.Table.{Verdict, answerOf}
 use Rattle.answers.proofs.Lists.{all-weaken}
-use Rattle.frames.specs.Bytes.{ByteKind, dataByte, exclusive, endOfExclusive, otherStatus, realTime}
-use Rattle.frames.specs.Bytes.{byteKind, ends, isRealTime, body, withoutRealTime, framed}
-use Rattle.frames.specs.Stream.{Report, report, messageAt, firstFrom, walk}
-use Rattle.frames.specs.code.Scan.{outside, scan}
-use Rattle.frames.proofs.Bytes.{lies-in, kind-is, body-on, body-stop}
-use Rattle.frames.proofs.Scan.{DataByte, further}
-use Rattle.frames.proofs.Walk.{cut-message, closed-message, interrupted-message}
-use Rattle.frames.proofs.OneByte.{scan-close}
+use Rattle.streams.specs.Bytes.{ByteKind, dataByte, exclusive, endOfExclusive, otherStatus, realTime}
+use Rattle.streams.specs.Bytes.{byteKind, ends, isRealTime, body, withoutRealTime, framed}
+use Rattle.streams.specs.Stream.{Report, report, messageAt, firstFrom, walk}
+use Rattle.streams.specs.code.Scan.{outside, scan}
+use Rattle.streams.proofs.Bytes.{lies-in, kind-is, body-on, body-stop}
+use Rattle.streams.proofs.Scan.{DataByte, further}
+use Rattle.streams.proofs.Walk.{cut-message, closed-message, interrupted-message}
+use Rattle.streams.proofs.OneByte.{scan-close}
 
 -- Bytes below 80H are data bytes.
 pub data-bytes : (c : List ℕ) → All (λ b. b < 0x80) c → All DataByte c

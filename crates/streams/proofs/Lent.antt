@@ -9,7 +9,7 @@ use lib.ListN.{length, drop}
 use lib.Seq.{drop-append-seam}
 use Rattle.answers.specs.Table.{Verdict, done, refused}
 use Rattle.answers.specs.promises.Decides.{Keeps}
-use Rattle.frames.specs.Stream.{packedIn, readInto}
+use Rattle.streams.specs.Stream.{packedIn, readInto}
 
 pub reading-keeps : (f e : ℕ) (v : Verdict) (lent : List ℕ)
     → let x = readInto f e v lent in Keeps (x .result .outcome .answer) (length (packedIn v)) lent (x .lent)

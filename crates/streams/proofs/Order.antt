@@ -7,11 +7,11 @@ use native.Mathlib.Omega.{arith}
 use lib.ListN.{length}
 use Rattle.answers.specs.Lists.{All}
 use Rattle.answers.specs.Table.{Verdict}
-use Rattle.frames.specs.Stream.{Report, report}
-use Rattle.frames.specs.code.Scan.{outside}
-use Rattle.frames.specs.promises.Order.{InOrder}
-use Rattle.frames.proofs.Scan.{ahead, scan-exclusive}
-use Rattle.frames.proofs.Walk.{scan-order}
+use Rattle.streams.specs.Stream.{Report, report}
+use Rattle.streams.specs.code.Scan.{outside}
+use Rattle.streams.specs.promises.Order.{InOrder}
+use Rattle.streams.proofs.Scan.{ahead, scan-exclusive}
+use Rattle.streams.proofs.Walk.{scan-order}
 
 -- Reports in order from p on start at p or later.
 pub order-from : (l : List Report) (q p n : ℕ) → q ≤ p → InOrder p n l → All (λ r. q ≤ r .start) l

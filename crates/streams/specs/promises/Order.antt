@@ -6,8 +6,8 @@ use Prim.Native.Nat.{ℕ, _≤_, _<_}
 use lib.ListN.{length, drop}
 use Rattle.answers.specs.Lists.{All}
 use Rattle.answers.specs.Table.{Verdict}
-use Rattle.frames.specs.Stream.{Report, walk, reportsFrom, reports}
-use Rattle.frames.specs.code.Scan.{outside, scan}
+use Rattle.streams.specs.Stream.{Report, walk, reportsFrom, reports}
+use Rattle.streams.specs.code.Scan.{outside, scan}
 
 -- The reports of a list start at place p or later, in order, each with bytes of its own, and end within n bytes.
 abbrev pub InOrder : ℕ → ℕ → List Report → Type 0

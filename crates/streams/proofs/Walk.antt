@@ -13,12 +13,12 @@ use lib.Seq.{append-snoc, drop-drop}
 use borrow.Author.Tests.{eq-eqb, ne-eqb}
 use Rattle.answers.specs.Lists.{All}
 use Rattle.answers.specs.Table.{Verdict, refused, outcome}
-use Rattle.frames.specs.Bytes.{ByteKind, dataByte, exclusive, endOfExclusive, otherStatus, realTime, byteKind, ends, body, withoutRealTime, framed}
-use Rattle.frames.specs.Stream.{Report, report, messageAt, firstFrom, walk, reportsFrom, reports}
-use Rattle.frames.specs.code.Scan.{outside, inside, scan}
-use Rattle.frames.specs.promises.Order.{InOrder, ReportsOf}
-use Rattle.frames.proofs.Bytes.{lies-in, kind-is, Ending, closing, starting, breaking, ending, behind-body, body-within}
-use Rattle.frames.proofs.Scan.{further, scan-outside}
+use Rattle.streams.specs.Bytes.{ByteKind, dataByte, exclusive, endOfExclusive, otherStatus, realTime, byteKind, ends, body, withoutRealTime, framed}
+use Rattle.streams.specs.Stream.{Report, report, messageAt, firstFrom, walk, reportsFrom, reports}
+use Rattle.streams.specs.code.Scan.{outside, inside, scan}
+use Rattle.streams.specs.promises.Order.{InOrder, ReportsOf}
+use Rattle.streams.proofs.Bytes.{lies-in, kind-is, Ending, closing, starting, breaking, ending, behind-body, body-within}
+use Rattle.streams.proofs.Scan.{further, scan-outside}
 
 module _ (judge : List ℕ → Verdict) where
   -- The scan from behind the body of t, inside the message from f with the content c before t.

@@ -1,0 +1,7 @@
+pub mod Bytes
+pub mod Scan
+pub mod Walk
+pub mod Order
+pub mod OneByte
+pub mod Complete
+pub mod Lent

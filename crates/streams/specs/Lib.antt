@@ -1,0 +1,4 @@
+pub mod Bytes
+pub mod Stream
+pub mod code
+pub mod promises
