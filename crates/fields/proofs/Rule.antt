@@ -1,7 +1,6 @@
 -- The rule of the table holds: its parts, each shown by one test over the whole.
 use Rattle.fields.specs.promises.Rule.{Rule}
-use Rattle.fields.proofs.Rules.{rows, fields-rule, apart}
-use Rattle.fields.proofs.Rules.{parameter-number, parameter-known, number-place, place-then-parameter, parameter-then-place}
+use Rattle.fields.proofs.Rules.{rows, fields-rule, apart, parameter-number, parameter-known, number-place, place-then-parameter, parameter-then-place}
 use Rattle.fields.proofs.Rules.{unused-nowhere, name-unnumbered, bus-unnumbered}
 use Rattle.fields.proofs.Places.{place-past}
 use Rattle.fields.proofs.Signs.{amount-goes, detune-goes, name-goes, source-goes, bus-amount-goes, destination-goes}

@@ -12,8 +12,7 @@ use lib.ListN.{length, getD, drop, drop-of-length-le}
 use lib.Seq.{drop-cons}
 use borrow.Author.Tests.{eq-eqb, ne-eqb}
 use Rattle.streams.specs.Bytes.{dataByte, realTime, ends, body}
-use Rattle.frames.specs.code.Extent.{realTimeIn}
-use Rattle.frames.specs.code.Extent.{ahead, startAt}
+use Rattle.frames.specs.code.Extent.{realTimeIn, ahead, startAt}
 use Rattle.streams.proofs.Bytes.{kind-is, stays, ends-there, body-on, body-stop}
 
 -- The byte at an index and what follows it.

@@ -10,8 +10,7 @@ use lib.ListN.{length, getD, take, drop, set, length-append, drop-of-length-le}
 use lib.Seq.{take-suc, take-all, take-append-le, take-append-seam}
 use Rattle.answers.proofs.Lists.{put-next}
 use Rattle.streams.specs.Bytes.{realTime, byteKind, isRealTime, withoutRealTime}
-use Rattle.frames.specs.code.Extent.{realTimeIn}
-use Rattle.frames.specs.code.Extent.{Kept}
+use Rattle.frames.specs.code.Extent.{realTimeIn, Kept}
 use Rattle.streams.proofs.Bytes.{kind-is, stays}
 
 without-append : (a b : List ℕ) → withoutRealTime (a ++ b) ≡ withoutRealTime a ++ withoutRealTime b

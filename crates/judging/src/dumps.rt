@@ -25,9 +25,8 @@ ghost use Rattle.streams.specs.Bytes.{framed};
 ghost use Rattle.messages.specs.declared.kinds.Kind.the-variants.{Dump as ofDump};
 ghost use Rattle.messages.specs.declared.kinds.Packed.the-variants.{Patch as aPatch};
 ghost use Rattle.messages.specs.Kinds.{sizeOf, master};
-ghost use Rattle.messages.specs.code.Sizes.{sized};
+ghost use Rattle.messages.specs.code.Sizes.{sized, lentRows};
 ghost use Rattle.messages.specs.Judge.{sentRows, misnumbered, numberIn};
-ghost use Rattle.messages.specs.code.Sizes.{lentRows};
 ghost use Rattle.judging.specs.code.Judged.{kindVerdict, judged, Checked, sentIn, sumIn};
 
 // Where the data bytes of a patch dump end in its content, and its sum stands.

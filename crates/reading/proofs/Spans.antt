@@ -8,8 +8,7 @@ use lib.Seq.{length-take-le}
 use Rattle.answers.specs.Table.{outcome, four}
 use Rattle.answers.specs.Effect.{Gives}
 use Rattle.streams.specs.Bytes.{body, withoutRealTime, framed}
-use Rattle.frames.specs.code.Extent.{realTimeIn}
-use Rattle.frames.specs.code.Extent.{spanOf, endingOf}
+use Rattle.frames.specs.code.Extent.{realTimeIn, spanOf, endingOf}
 use Rattle.streams.specs.Stream.{messageAt}
 use Rattle.frames.specs.declared.Span.{Span}
 use Rattle.streams.proofs.Bytes.{body-within, body-take}

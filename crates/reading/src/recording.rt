@@ -17,8 +17,7 @@ ghost use lib.ListN.{length};
 ghost use Rattle.answers.specs.Effect.{Gives};
 ghost use Rattle.answers.specs.Table.{four};
 ghost use Rattle.streams.specs.Bytes.{framed, withoutRealTime};
-ghost use Rattle.frames.specs.code.Extent.{realTimeIn};
-ghost use Rattle.frames.specs.code.Extent.{spanOf};
+ghost use Rattle.frames.specs.code.Extent.{realTimeIn, spanOf};
 ghost use Rattle.messages.specs.Judge.{judge};
 ghost use Rattle.reading.specs.code.Told.{readingAs, recorded, readMessage, reads};
 

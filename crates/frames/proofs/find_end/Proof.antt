@@ -6,8 +6,7 @@ use Prim.Native.Nat.{ℕ, _≤_, _+_, _-_}
 use native.Mathlib.Omega.{arith}
 use lib.ListN.{length, drop, getD, drop-of-length-le}
 use Rattle.streams.specs.Bytes.{body}
-use Rattle.frames.specs.code.Extent.{realTimeIn}
-use Rattle.frames.specs.code.Extent.{spanOf, endingOf}
+use Rattle.frames.specs.code.Extent.{realTimeIn, spanOf, endingOf}
 use Rattle.frames.specs.declared.Span.{Span}
 use Rattle.frames.proofs.Extent.{split, body-data, body-real-time, body-ended, body-end, real-time-data, real-time-more, real-time-none}
 use Rattle.frames.proofs.find_end.Statement.{statement}
