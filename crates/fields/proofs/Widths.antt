@@ -1,15 +1,14 @@
 -- A field's range as its least value and its width, the greatest minus the least modulo 256: a byte lies in the range exactly when, less
 -- the least modulo 256, it is at most the width.
 use mathlib.Core.Path.{_≡_, refl}
-use mathlib.Core.Bool.{Bool, true, false, cond, _&&_, _||_}
 use mathlib.Core.List.{List, [], _∷_}
 use Prim.Native.Nat.{ℕ, zero, suc, _+_, _-_, _/_, _%_, _≤_, _<_}
 use native.Mathlib.Nat.{le-of-suc-le-suc}
 use native.Mathlib.Omega.{arith}
 use lib.Dec.{leb}
 use lib.ListN.{getD}
-use borrow.Author.Tests.{leb-true, leb-false, lt-ltb}
-use Rattle.ranges.specs.Ranges.{between, inRow}
+use Rattle.ranges.specs.Ranges.{inRow}
+use Rattle.ranges.proofs.Between.{between-width}
 use Rattle.fields.specs.Fields.{leastAt, greatestAt, inRange}
 use Rattle.fields.specs.code.Columns.{widthAt, rangeAt}
 use Rattle.fields.proofs.Rules.{past, fields-rule}
@@ -27,29 +26,6 @@ column-get f (suc n) k (suc j) h = let e : k + suc j ≡ suc k + j = omega arith
 
 column-at : (f : ℕ → ℕ) (n j : ℕ) → j < n → getD (column f n 0) j 0 ≡ f j
 column-at f n j h = let z : 0 + j ≡ j = omega arith in rw z at (column-get f n 0 j h)
-
-between-width : (l g b r w : ℕ) → l < 256 → g < 256 → b < 256 → r < 256 → (r + l) % 256 ≡ b → w ≡ (g + (256 - l)) % 256 → between l g b ≡ leb r w
-unfolding between
-between-width l g b r w hl hg hb hr er ew = rw (lt-ltb b 256 hb) (go (leb l g) (leb l b) (leb b g) (leb r w) refl refl refl refl)
-  where
-    go : (t u v x : Bool) → leb l g ≡ t → leb l b ≡ u → leb b g ≡ v → leb r w ≡ x → cond t (u && v) (u || v) ≡ x
-    go true true true true q₁ q₂ q₃ q₄ = refl
-    go true true true false q₁ q₂ q₃ q₄ =
-        let a = leb-true l g q₁ in let c = leb-true l b q₂ in let e = leb-true b g q₃ in let d = leb-false r w q₄ in absurd (omega arith)
-    go true true false true q₁ q₂ q₃ q₄ =
-        let a = leb-true l g q₁ in let c = leb-true l b q₂ in let e = leb-false b g q₃ in let d = leb-true r w q₄ in absurd (omega arith)
-    go true true false false q₁ q₂ q₃ q₄ = refl
-    go true false v true q₁ q₂ q₃ q₄ = let a = leb-true l g q₁ in let c = leb-false l b q₂ in let d = leb-true r w q₄ in absurd (omega arith)
-    go true false v false q₁ q₂ q₃ q₄ = refl
-    go false true v true q₁ q₂ q₃ q₄ = refl
-    go false true v false q₁ q₂ q₃ q₄ =
-        let a = leb-false l g q₁ in let c = leb-true l b q₂ in let d = leb-false r w q₄ in absurd (omega arith)
-    go false false true true q₁ q₂ q₃ q₄ = refl
-    go false false true false q₁ q₂ q₃ q₄ =
-        let a = leb-false l g q₁ in let c = leb-false l b q₂ in let e = leb-true b g q₃ in let d = leb-false r w q₄ in absurd (omega arith)
-    go false false false true q₁ q₂ q₃ q₄ =
-        let a = leb-false l g q₁ in let c = leb-false l b q₂ in let e = leb-false b g q₃ in let d = leb-true r w q₄ in absurd (omega arith)
-    go false false false false q₁ q₂ q₃ q₄ = refl
 
 -- A byte b of place k, by what is left of it above the least.
 pub in-range-width : (k b r : ℕ) → b < 256 → r < 256 → (r + leastAt k) % 256 ≡ b → inRange k b ≡ leb r (widthAt k)

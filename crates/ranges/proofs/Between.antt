@@ -1,10 +1,10 @@
 -- What `between` says in numbers. Where a range spans fewer than 129 bytes it never has a byte and the one 128 higher.
 use mathlib.Core.Path.{_≡_, refl}
 use mathlib.Core.Bool.{Bool, true, false, cond, _&&_, _||_}
-use Prim.Native.Nat.{ℕ, _+_, _≤_, _<_}
+use Prim.Native.Nat.{ℕ, _+_, _-_, _%_, _≤_, _<_}
 use native.Mathlib.Omega.{arith}
 use lib.Dec.{T, leb, ltb, ltb→lt}
-use borrow.Author.Tests.{ltb-true, leb-true, leb-false}
+use borrow.Author.Tests.{lt-ltb, ltb-true, leb-true, leb-false}
 use Rattle.ranges.specs.Ranges.{between}
 use Rattle.ranges.proofs.Below.{parts}
 
@@ -40,6 +40,30 @@ is-byte least greatest b e = go (lies least greatest b e)
     go (plain s₁ s₂ s₃ s₄) = s₄
     go (negative s₁ s₂ s₃) = s₃
     go (positive s₁ s₂ s₃) = s₃
+
+-- A byte lies between two bounds exactly when what is left of it above the least, modulo 256, is at most what is left of the greatest.
+pub between-width : (l g b r w : ℕ) → l < 256 → g < 256 → b < 256 → r < 256 → (r + l) % 256 ≡ b → w ≡ (g + (256 - l)) % 256 → between l g b ≡ leb r w
+unfolding between
+between-width l g b r w hl hg hb hr er ew = rw (lt-ltb b 256 hb) (go (leb l g) (leb l b) (leb b g) (leb r w) refl refl refl refl)
+  where
+    go : (t u v x : Bool) → leb l g ≡ t → leb l b ≡ u → leb b g ≡ v → leb r w ≡ x → cond t (u && v) (u || v) ≡ x
+    go true true true true q₁ q₂ q₃ q₄ = refl
+    go true true true false q₁ q₂ q₃ q₄ =
+        let a = leb-true l g q₁ in let c = leb-true l b q₂ in let e = leb-true b g q₃ in let d = leb-false r w q₄ in absurd (omega arith)
+    go true true false true q₁ q₂ q₃ q₄ =
+        let a = leb-true l g q₁ in let c = leb-true l b q₂ in let e = leb-false b g q₃ in let d = leb-true r w q₄ in absurd (omega arith)
+    go true true false false q₁ q₂ q₃ q₄ = refl
+    go true false v true q₁ q₂ q₃ q₄ = let a = leb-true l g q₁ in let c = leb-false l b q₂ in let d = leb-true r w q₄ in absurd (omega arith)
+    go true false v false q₁ q₂ q₃ q₄ = refl
+    go false true v true q₁ q₂ q₃ q₄ = refl
+    go false true v false q₁ q₂ q₃ q₄ =
+        let a = leb-false l g q₁ in let c = leb-true l b q₂ in let d = leb-false r w q₄ in absurd (omega arith)
+    go false false true true q₁ q₂ q₃ q₄ = refl
+    go false false true false q₁ q₂ q₃ q₄ =
+        let a = leb-false l g q₁ in let c = leb-false l b q₂ in let e = leb-true b g q₃ in let d = leb-false r w q₄ in absurd (omega arith)
+    go false false false true q₁ q₂ q₃ q₄ =
+        let a = leb-false l g q₁ in let c = leb-false l b q₂ in let e = leb-false b g q₃ in let d = leb-true r w q₄ in absurd (omega arith)
+    go false false false false q₁ q₂ q₃ q₄ = refl
 
 -- A range from the least up, or through 255 to 0, spans at most 128 bytes.
 abbrev pub narrow : ℕ → ℕ → Bool

@@ -13,21 +13,13 @@ pub enum Failed {
     Nowhere,
 }
 
-// A byte lies between two bounds; where the least is above the greatest, the range goes on from 255 to 0.
+// A byte lies between two bounds; where the least is above the greatest, the range goes on from 255 to 0. It is no further above the
+// least than the greatest is.
 fn lies_between(least: u8, greatest: u8, b: u8) -> bool
     ensures { λ r. ⌜ r ≡ between least greatest b ⌝ }
 {
-    if least <= greatest {
-        if b < least {
-            return false;
-        }
-        b <= greatest
-    } else {
-        if b < least {
-            return b <= greatest;
-        }
-        true
-    }
+    let above = std::num::wrapping_sub_u8(b, least);
+    above <= std::num::wrapping_sub_u8(greatest, least)
 }
 
 // A byte lies in the range of its row: place, parameter, least and greatest value. Past the table both bounds are 0.

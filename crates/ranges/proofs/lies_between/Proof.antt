@@ -1,34 +1,18 @@
--- Each answer is that of `between` under the tests that led to it.
-use Prim.Native.Nat.{_<_}
+-- What is left of the byte and of the greatest above the least, compared.
+use mathlib.Core.Path.{sym}
 use native.Mathlib.Omega.{arith}
-use borrow.Author.Tests.{lt-ltb, le-leb, lt-leb}
-use Rattle.ranges.specs.Ranges.{between}
+use borrow.Author.Needs.{needs}
+use Rattle.ranges.proofs.Between.{between-width}
 use Rattle.ranges.proofs.lies_between.Statement.{statement}
 use Rattle.ranges.proofs.lies_between.Tie as tie
 
 returns : tie.Need-returns
-unfolding between
 returns c =
-    let byte : c .before .before .args .b < 256 = omega arith in
-    simp (lt-ltb _ _ byte, le-leb _ _ (c .before .if1 .taken), lt-leb _ _ (c .if2 .taken))
-
-returns-2 : tie.Need-returns-2
-unfolding between
-returns-2 c =
-    let byte : c .before .before .args .b < 256 = omega arith in
-    simp (lt-ltb _ _ byte, lt-leb _ _ (c .before .if1 .left), lt-leb _ _ (c .if3 .taken))
-
-returns-3 : tie.Need-returns-3
-unfolding between
-returns-3 c =
-    let byte : c .before .before .args .b < 256 = omega arith in
-    simp (lt-ltb _ _ byte, le-leb _ _ (c .before .if1 .taken), le-leb _ _ (c .if2 .left))
-
-returns-4 : tie.Need-returns-4
-unfolding between
-returns-4 c =
-    let byte : c .before .before .args .b < 256 = omega arith in
-    simp (lt-ltb _ _ byte, lt-leb _ _ (c .before .if1 .left), le-leb _ _ (c .if3 .left))
+    let a = c .before .before .args in
+    let above = c .before .wrapping-sub-u8 in
+    let width = c .wrapping-sub-u82 in
+    sym (between-width (a .least) (a .greatest) (a .b) (above .result) (width .result) (omega arith) (omega arith) (omega arith)
+    (omega (arith, above .ok)) (above .ensures) (omega (arith, width .ok, width .ensures)))
 
 pub lies-between-spec : {M : Type 1} → statement M
-lies-between-spec = tie.close (tie.spec returns returns-2 returns-3 returns-4)
+lies-between-spec = tie.close (tie.spec (λ c κs. search needs) (λ c κs. search needs) returns)
