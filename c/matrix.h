@@ -151,8 +151,8 @@ matrix_outcome matrix_show_name(const uint8_t *p, size_t p_len, uint8_t *out, si
  * Written: the parameter's byte with answer 0. */
 matrix_outcome matrix_apply_edit(uint8_t *p, size_t p_len, uint8_t parameter, uint8_t value);
 
-/* Applies a matrix modulation edit to a patch: a bus, 0 to 9, its source, seven bits of amount, and
- * its destination.
+/* Applies a matrix modulation edit to a patch: a bus, 0 to 9, its source, 0 to 20, seven bits of
+ * amount, and its destination, 0 to 32.
  * Answers: 8, 14, 11 and 12 for the edit, then 7, 11 and 12 for the patch as it was; 0.
  * Written: the three bytes of the bus with answer 0. */
 matrix_outcome matrix_apply_bus_edit(uint8_t *p, size_t p_len,

@@ -170,7 +170,7 @@ static void test_edits(void)
 {
     uint8_t p[MATRIX_PATCH_BYTES], out[MATRIX_BUS_EDIT_MESSAGE + 1];
     static const uint8_t edit[] = {0xF0, 0x10, 0x06, 0x06, 0x15, 0x7F, 0xF7};
-    static const uint8_t bus[] = {0xF0, 0x10, 0x06, 0x0B, 0x09, 0x14, 0x40, 0x1F, 0xF7};
+    static const uint8_t bus[] = {0xF0, 0x10, 0x06, 0x0B, 0x09, 0x14, 0x40, 0x20, 0xF7};
 
     make_p(p);
     HOLDS(done(matrix_apply_edit(p, sizeof p, 0x15, 0x7F), 0) && p[26] == 127);
@@ -185,10 +185,14 @@ static void test_edits(void)
 
     HOLDS(done(matrix_apply_bus_edit(p, sizeof p, 9, 20, 0x40, 31), 0));
     HOLDS(p[131] == 0x14 && p[132] == 0xC0 && p[133] == 0x1F);
-    HOLDS(gave(matrix_apply_bus_edit(p, sizeof p, 9, 1, 0, 32), MATRIX_OUT_OF_RANGE, 133));
+    HOLDS(done(matrix_apply_bus_edit(p, sizeof p, 9, 20, 0x40, 32), 0) && p[133] == 0x20);
+    HOLDS(gave(matrix_apply_bus_edit(p, sizeof p, 9, 20, 0x40, 33), MATRIX_OUT_OF_RANGE, 133));
     HOLDS(gave(matrix_apply_bus_edit(p, sizeof p, 0, 1, 0, 0), MATRIX_HALF_USED, 0));
     HOLDS(gave(matrix_apply_bus_edit(p, sizeof p, 10, 1, 0, 1), MATRIX_NOT_ALLOWED, 0));
-    HOLDS(p[131] == 0x14 && p[133] == 0x1F && all_are(p, 104, 131, 0));
+    HOLDS(p[131] == 0x14 && p[133] == 0x20 && all_are(p, 104, 131, 0));
+    HOLDS(done(matrix_test_patch(p, sizeof p), 0));
+    p[133] = 33;
+    HOLDS(gave(matrix_test_patch(p, sizeof p), MATRIX_OUT_OF_RANGE, 133));
 
     memset(out, FILL_BYTE, sizeof out);
     HOLDS(gave(matrix_write_edit(0x15, 0x7F, out, 6), MATRIX_NO_ROOM, 0));
@@ -198,9 +202,10 @@ static void test_edits(void)
     HOLDS(memcmp(out, edit, sizeof edit) == 0 && all_are(out, 7, sizeof out, FILL_BYTE));
 
     memset(out, FILL_BYTE, sizeof out);
-    HOLDS(gave(matrix_write_bus_edit(10, 20, 0x40, 31, out, sizeof out), MATRIX_NOT_ALLOWED, 0));
+    HOLDS(gave(matrix_write_bus_edit(10, 20, 0x40, 32, out, sizeof out), MATRIX_NOT_ALLOWED, 0));
+    HOLDS(gave(matrix_write_bus_edit(9, 20, 0x40, 33, out, sizeof out), MATRIX_OUT_OF_RANGE, 133));
     HOLDS(all_are(out, 0, sizeof out, FILL_BYTE));
-    HOLDS(done(matrix_write_bus_edit(9, 20, 0x40, 31, out, sizeof out), 9));
+    HOLDS(done(matrix_write_bus_edit(9, 20, 0x40, 32, out, sizeof out), 9));
     HOLDS(memcmp(out, bus, sizeof bus) == 0 && out[9] == FILL_BYTE);
 }
 

@@ -184,6 +184,18 @@ const APPLY_EDIT: Routine = Routine {
     },
 };
 
+const APPLY_BUS_EDIT: Routine = Routine {
+    name: "apply_bus_edit",
+    inputs: "",
+    source: Source::Any(calls::apply_bus_edit),
+    library: |c| ffi::apply_bus_edit(c.first.get_mut(), c.bytes).into(),
+    expected: |c| {
+        let [bus, source, amount, destination] = c.bytes;
+        let patch = c.first.get_mut();
+        reference::apply_bus_edit(patch, bus, source, amount, destination).into()
+    },
+};
+
 const WRITE_EDIT: Routine = Routine {
     name: "write_edit",
     inputs: "",
@@ -198,7 +210,19 @@ const WRITE_EDIT: Routine = Routine {
     },
 };
 
-pub static ROUTINES: [Routine; 19] = [
+const WRITE_BUS_EDIT: Routine = Routine {
+    name: "write_bus_edit",
+    inputs: "",
+    source: Source::Any(calls::write_bus_edit),
+    library: |c| ffi::write_bus_edit(c.bytes, c.second.get_mut()).into(),
+    expected: |c| {
+        let [bus, source, amount, destination] = c.bytes;
+        let out = c.second.get_mut();
+        reference::write_bus_edit(bus, source, amount, destination, out).into()
+    },
+};
+
+pub static ROUTINES: [Routine; 21] = [
     Routine {
         name: "walk",
         inputs: "",
@@ -260,16 +284,11 @@ pub static ROUTINES: [Routine; 19] = [
         source: Source::Every(65_536, calls::every_edit),
         ..APPLY_EDIT
     },
+    APPLY_BUS_EDIT,
     Routine {
-        name: "apply_bus_edit",
-        inputs: "",
-        source: Source::Any(calls::apply_bus_edit),
-        library: |c| ffi::apply_bus_edit(c.first.get_mut(), c.bytes).into(),
-        expected: |c| {
-            let [bus, source, amount, destination] = c.bytes;
-            let patch = c.first.get_mut();
-            reference::apply_bus_edit(patch, bus, source, amount, destination).into()
-        },
+        inputs: ", every source and destination",
+        source: Source::Every(65_536, calls::every_bus_edit),
+        ..APPLY_BUS_EDIT
     },
     Routine {
         name: "write_patch",
@@ -301,16 +320,11 @@ pub static ROUTINES: [Routine; 19] = [
         source: Source::Every(65_536, calls::every_edit),
         ..WRITE_EDIT
     },
+    WRITE_BUS_EDIT,
     Routine {
-        name: "write_bus_edit",
-        inputs: "",
-        source: Source::Any(calls::write_bus_edit),
-        library: |c| ffi::write_bus_edit(c.bytes, c.second.get_mut()).into(),
-        expected: |c| {
-            let [bus, source, amount, destination] = c.bytes;
-            let out = c.second.get_mut();
-            reference::write_bus_edit(bus, source, amount, destination, out).into()
-        },
+        inputs: ", every source and destination",
+        source: Source::Every(65_536, calls::every_bus_edit),
+        ..WRITE_BUS_EDIT
     },
     Routine {
         name: "write_bank",

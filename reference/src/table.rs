@@ -1,5 +1,5 @@
 //! The single patch listing of source document 000, row by row: byte, parameter, number of bits,
-//! description. Where document 01 corrects a row, the row says so.
+//! description. Where document 01 or 02 corrects a row, the row says so.
 
 /// The number of packed bytes in a patch.
 pub const PATCH_LENGTH: usize = 134;
@@ -33,10 +33,13 @@ const fn signed(n: u32) -> Range {
     (-half, half - 1)
 }
 
-/// A list of codes that doesn't fill its bits.
+/// A list of codes, where the bits don't decide.
 const fn codes(least: i8, greatest: i8) -> Range {
     (least, greatest)
 }
+
+/// The destinations of Table 3, the last of them Portamento Time; 0 is an unused bus's.
+const TABLE_3: Range = codes(0, 32);
 
 const fn row(place: u8, parameter: u8, range: Range, name: &'static str) -> Row {
     Row {
@@ -180,37 +183,38 @@ const LISTING: [Row; PATCH_LENGTH] = [
     row(101, 32, signed(7), "VCF FM Amount by Pressure Amount"),
     row(102, 81, signed(7), "LFO 1 Speed by Pressure Amount"),
     row(103, 91, signed(7), "LFO 2 Speed by Keyboard Amount"),
-    // A source has 5 bits, of which Table 2 and 01 allow 0..20; 01 takes a destination's 5 bits.
+    // A source has 5 bits, of which Table 2 and 01 allow 0..20. A destination is listed with 5 bits
+    // too; Table 3 decides over them (02).
     plain(104, codes(0, 20), "Matrix Modulation Bus 0 Source Code"),
     plain(105, signed(7), "Matrix Modulation Bus 0 Amount"),
-    plain(106, bits(5), "Matrix Modulation Bus 0 Destination Code"),
+    plain(106, TABLE_3, "Matrix Modulation Bus 0 Destination Code"),
     plain(107, codes(0, 20), "Matrix Modulation Bus 1 Source Code"),
     plain(108, signed(7), "Matrix Modulation Bus 1 Amount"),
-    plain(109, bits(5), "Matrix Modulation Bus 1 Destination Code"),
+    plain(109, TABLE_3, "Matrix Modulation Bus 1 Destination Code"),
     plain(110, codes(0, 20), "Matrix Modulation Bus 2 Source Code"),
     plain(111, signed(7), "Matrix Modulation Bus 2 Amount"),
-    plain(112, bits(5), "Matrix Modulation Bus 2 Destination Code"),
+    plain(112, TABLE_3, "Matrix Modulation Bus 2 Destination Code"),
     plain(113, codes(0, 20), "Matrix Modulation Bus 3 Source Code"),
     plain(114, signed(7), "Matrix Modulation Bus 3 Amount"),
-    plain(115, bits(5), "Matrix Modulation Bus 3 Destination Code"),
+    plain(115, TABLE_3, "Matrix Modulation Bus 3 Destination Code"),
     plain(116, codes(0, 20), "Matrix Modulation Bus 4 Source Code"),
     plain(117, signed(7), "Matrix Modulation Bus 4 Amount"),
-    plain(118, bits(5), "Matrix Modulation Bus 4 Destination Code"),
+    plain(118, TABLE_3, "Matrix Modulation Bus 4 Destination Code"),
     plain(119, codes(0, 20), "Matrix Modulation Bus 5 Source Code"),
     plain(120, signed(7), "Matrix Modulation Bus 5 Amount"),
-    plain(121, bits(5), "Matrix Modulation Bus 5 Destination Code"),
+    plain(121, TABLE_3, "Matrix Modulation Bus 5 Destination Code"),
     plain(122, codes(0, 20), "Matrix Modulation Bus 6 Source Code"),
     plain(123, signed(7), "Matrix Modulation Bus 6 Amount"),
-    plain(124, bits(5), "Matrix Modulation Bus 6 Destination Code"),
+    plain(124, TABLE_3, "Matrix Modulation Bus 6 Destination Code"),
     plain(125, codes(0, 20), "Matrix Modulation Bus 7 Source Code"),
     plain(126, signed(7), "Matrix Modulation Bus 7 Amount"),
-    plain(127, bits(5), "Matrix Modulation Bus 7 Destination Code"),
+    plain(127, TABLE_3, "Matrix Modulation Bus 7 Destination Code"),
     plain(128, codes(0, 20), "Matrix Modulation Bus 8 Source Code"),
     plain(129, signed(7), "Matrix Modulation Bus 8 Amount"),
-    plain(130, bits(5), "Matrix Modulation Bus 8 Destination Code"),
+    plain(130, TABLE_3, "Matrix Modulation Bus 8 Destination Code"),
     plain(131, codes(0, 20), "Matrix Modulation Bus 9 Source Code"),
     plain(132, signed(7), "Matrix Modulation Bus 9 Amount"),
-    plain(133, bits(5), "Matrix Modulation Bus 9 Destination Code"),
+    plain(133, TABLE_3, "Matrix Modulation Bus 9 Destination Code"),
 ];
 
 /// The least value at each place, and the greatest: the columns the field test runs over.

@@ -35,7 +35,7 @@ pub struct Bus {
     pub source: u8,
     /// The amount, -64 to 63.
     pub amount: i8,
-    /// The destination; 0 for none.
+    /// The destination, 0 to 32; 0 for none.
     pub destination: u8,
 }
 
@@ -146,10 +146,12 @@ impl Patch {
     /// use matrix1000::{Bus, Error, Patch};
     ///
     /// let mut patch = Patch::default();
-    /// let bus = Bus { source: 20, amount: -64, destination: 31 };
+    /// let bus = Bus { source: 20, amount: -64, destination: 32 };
     /// patch.set_bus(9, bus)?;
     /// assert_eq!(patch.bus(9), Some(bus));
-    /// assert_eq!(patch.as_bytes()[131..], [0x14, 0xC0, 0x1F]);
+    /// assert_eq!(patch.as_bytes()[131..], [0x14, 0xC0, 0x20]);
+    /// let none_such = Bus { destination: 33, ..bus };
+    /// assert_eq!(patch.set_bus(9, none_such), Err(Error::OutOfRange { place: 133 }));
     /// # Ok::<(), Error>(())
     /// ```
     pub fn set_bus(&mut self, number: usize, bus: Bus) -> Result<(), Error> {

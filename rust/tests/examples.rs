@@ -72,15 +72,6 @@ fn a_bus() {
     };
     assert_eq!(patch.set_bus(0, half), Err(Error::HalfUsed { bus: 0 }));
     assert_eq!(BusEdit::new(0, half), Err(Error::HalfUsed { bus: 0 }));
-    let wide = Bus {
-        destination: 32,
-        ..bus
-    };
-    assert_eq!(
-        patch.set_bus(9, wide),
-        Err(Error::OutOfRange { place: 133 })
-    );
-    assert_eq!(BusEdit::new(9, wide), Err(Error::OutOfRange { place: 133 }));
     for amount in [-65, 64, 127, -128] {
         let outside = Bus { amount, ..bus };
         assert_eq!(BusEdit::new(0, outside), Err(Error::WrongAmount));
@@ -91,6 +82,47 @@ fn a_bus() {
         );
     }
     assert_eq!(patch.bus(0), Some(bus));
+}
+
+/// The dump of the zero patch with other bytes from a place on.
+fn dump_with(place: usize, bytes: &[u8]) -> Vec<u8> {
+    let mut dump = dump(0, Patch::default());
+    for (at, byte) in (5 + 2 * place..).step_by(2).zip(bytes) {
+        (dump[at], dump[at + 1]) = (byte % 16, byte / 16);
+        dump[273] = dump[273].wrapping_add(*byte) % 128;
+    }
+    dump
+}
+
+#[test]
+fn destinations_are_0_to_32() {
+    for (number, destination) in (0..10).flat_map(|bus| (1..=255).map(move |code| (bus, code))) {
+        let place = 106 + 3 * usize::from(number);
+        let bus = Bus {
+            source: 20,
+            amount: -64,
+            destination,
+        };
+        let bytes = [0x14, 0xC0, destination];
+        let mut patch = Patch::default();
+        let set = patch.set_bus(number.into(), bus);
+        let edit = BusEdit::new(number, bus);
+        let read = Message::try_from(dump_with(place - 2, &bytes).as_slice());
+        if destination > 32 {
+            let refused = Error::OutOfRange { place };
+            assert_eq!(
+                (set, edit, read),
+                (Err(refused), Err(refused), Err(refused))
+            );
+            assert_eq!(patch, Patch::default());
+        } else {
+            assert_eq!(patch.as_bytes()[place - 2..=place], bytes);
+            assert_eq!(read, Ok(Message::Patch { number: 0, patch }));
+            let mut edited = Patch::default();
+            edited.apply_bus(edit.unwrap());
+            assert_eq!((set, edited), (Ok(()), patch));
+        }
+    }
 }
 
 #[test]
@@ -159,7 +191,7 @@ fn every_kind_comes_back_from_its_bytes() {
     let bus = Bus {
         source: 20,
         amount: -64,
-        destination: 31,
+        destination: 32,
     };
     let all = [
         Message::Patch { number: 42, patch },

@@ -87,6 +87,10 @@ fn of_every_byte_of_a_patch() {
         refused(132),
         "the amount of bus 9, byte 132 of the patch, is out of range: -64 to 63",
     );
+    says(
+        refused(133),
+        "the destination of bus 9, byte 133 of the patch, is out of range: 0 to 32",
+    );
     for place in 0..Patch::LENGTH {
         let error = refused(place).unwrap_err();
         assert_eq!(error, Error::OutOfRange { place });

@@ -1,11 +1,15 @@
 -- The rule of the table holds: its parts, each shown by one test over the whole.
+use Rattle.ranges.specs.Values.{valueOf, valueIn}
+use Rattle.ranges.proofs.Tables.{each-goes}
+use Rattle.fields.specs.Fields.{fields}
 use Rattle.fields.specs.promises.Rule.{Rule}
 use Rattle.fields.proofs.Rules.{rows, fields-rule, apart, parameter-number, parameter-known, number-place, place-then-parameter, parameter-then-place}
 use Rattle.fields.proofs.Rules.{unused-nowhere, name-unnumbered, bus-unnumbered}
 use Rattle.fields.proofs.Places.{place-past}
-use Rattle.fields.proofs.Signs.{amount-goes, detune-goes, name-goes, source-goes, bus-amount-goes, destination-goes}
+use Rattle.fields.proofs.Signs.{amount-goes, detune-goes, name-goes}
 
 pub rule : Rule
+unfolding fields valueOf valueIn
 rule = record {
   rows = rows;
   of-tables = fields-rule;
@@ -20,8 +24,8 @@ rule = record {
   amount = amount-goes;
   detune = detune-goes;
   name = name-goes;
-  bus-source = source-goes;
-  bus-amount = bus-amount-goes;
-  bus-destination = destination-goes;
+  bus-source = each-goes fields _ _ 104 3 10 tt;
+  bus-amount = each-goes fields _ _ 105 3 10 tt;
+  bus-destination = each-goes fields _ _ 106 3 10 tt;
   apart = apart;
 }

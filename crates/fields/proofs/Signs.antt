@@ -1,4 +1,4 @@
--- The values of the signed amounts, of detune, of the name and of the three bytes of each bus, and how bounds are shown: one test of the rows of each.
+-- The values of the signed amounts, of detune and of the name, and how bounds are shown: one test of the rows of each.
 use mathlib.Core.Path.{_≡_, refl}
 use mathlib.Core.Bool.{Bool, true, false, _&&_}
 use Prim.Native.Nat.{ℕ, _+_, _-_, _*_, _≤_, _<_}
@@ -25,18 +25,6 @@ detune-goes = (refl, refl)
 pub name-goes : (k : ℕ) → k < 8 → Goes fields k (plus 0) (plus 63)
 unfolding fields valueOf valueIn
 name-goes k h = let here : 0 + 1 * k ≡ k = omega arith in rw here at (each-goes fields (plus 0) (plus 63) 0 1 8 tt k h)
-
-pub source-goes : (b : ℕ) → b < 10 → Goes fields (104 + 3 * b) (plus 0) (plus 20)
-unfolding fields valueOf valueIn
-source-goes = each-goes fields (plus 0) (plus 20) 104 3 10 tt
-
-pub bus-amount-goes : (b : ℕ) → b < 10 → Goes fields (105 + 3 * b) (minus 64) (plus 63)
-unfolding fields valueOf valueIn
-bus-amount-goes = each-goes fields (minus 64) (plus 63) 105 3 10 tt
-
-pub destination-goes : (b : ℕ) → b < 10 → Goes fields (106 + 3 * b) (plus 0) (plus 31)
-unfolding fields valueOf valueIn
-destination-goes = each-goes fields (plus 0) (plus 31) 106 3 10 tt
 
 -- The bounds of every field, signed or not, are shown as two's complement: no field without a sign goes beyond 127.
 abbrev shown-right : ℕ → Bool

@@ -11,6 +11,10 @@ use Rattle.ranges.specs.Values.{Value, valueIn}
 abbrev pub size : ℕ
 size = 134
 
+-- A bus destination is 0..32 (02 (i)): Table 3 of 000 decides, whose last code, 32, is Portamento Time.
+abbrev pub lastDestination : ℕ
+lastDestination = 32
+
 -- Parameter 255 stands where a place has none.
 unfoldable pub fields : Table
 fields =
@@ -45,16 +49,16 @@ fields =
     field 98 95 0xC0 0x3F ∷ field 99 45 0xC0 0x3F ∷ field 100 31 0xC0 0x3F ∷ field 101 32 0xC0 0x3F ∷
     field 102 81 0xC0 0x3F ∷ field 103 91 0xC0 0x3F ∷
     -- The buses: source, amount, destination.
-    field 104 255 0 20 ∷ field 105 255 0xC0 0x3F ∷ field 106 255 0 31 ∷
-    field 107 255 0 20 ∷ field 108 255 0xC0 0x3F ∷ field 109 255 0 31 ∷
-    field 110 255 0 20 ∷ field 111 255 0xC0 0x3F ∷ field 112 255 0 31 ∷
-    field 113 255 0 20 ∷ field 114 255 0xC0 0x3F ∷ field 115 255 0 31 ∷
-    field 116 255 0 20 ∷ field 117 255 0xC0 0x3F ∷ field 118 255 0 31 ∷
-    field 119 255 0 20 ∷ field 120 255 0xC0 0x3F ∷ field 121 255 0 31 ∷
-    field 122 255 0 20 ∷ field 123 255 0xC0 0x3F ∷ field 124 255 0 31 ∷
-    field 125 255 0 20 ∷ field 126 255 0xC0 0x3F ∷ field 127 255 0 31 ∷
-    field 128 255 0 20 ∷ field 129 255 0xC0 0x3F ∷ field 130 255 0 31 ∷
-    field 131 255 0 20 ∷ field 132 255 0xC0 0x3F ∷ field 133 255 0 31 ∷ []
+    field 104 255 0 20 ∷ field 105 255 0xC0 0x3F ∷ field 106 255 0 lastDestination ∷
+    field 107 255 0 20 ∷ field 108 255 0xC0 0x3F ∷ field 109 255 0 lastDestination ∷
+    field 110 255 0 20 ∷ field 111 255 0xC0 0x3F ∷ field 112 255 0 lastDestination ∷
+    field 113 255 0 20 ∷ field 114 255 0xC0 0x3F ∷ field 115 255 0 lastDestination ∷
+    field 116 255 0 20 ∷ field 117 255 0xC0 0x3F ∷ field 118 255 0 lastDestination ∷
+    field 119 255 0 20 ∷ field 120 255 0xC0 0x3F ∷ field 121 255 0 lastDestination ∷
+    field 122 255 0 20 ∷ field 123 255 0xC0 0x3F ∷ field 124 255 0 lastDestination ∷
+    field 125 255 0 20 ∷ field 126 255 0xC0 0x3F ∷ field 127 255 0 lastDestination ∷
+    field 128 255 0 20 ∷ field 129 255 0xC0 0x3F ∷ field 130 255 0 lastDestination ∷
+    field 131 255 0 20 ∷ field 132 255 0xC0 0x3F ∷ field 133 255 0 lastDestination ∷ []
 
 abbrev pub placeAt : ℕ → ℕ
 placeAt k = placeIn fields k

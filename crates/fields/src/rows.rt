@@ -5,6 +5,9 @@ use crate::PLACES;
 // Stands where a place has no parameter: the name and the buses.
 pub(crate) const NONE: u8 = 255;
 
+// The last code of 000's Table 3, Portamento Time.
+pub(crate) const LAST_DESTINATION: u8 = 32;
+
 // The name.
 pub(crate) const R0: Field = Field(0, NONE, 0, 63);
 
@@ -221,61 +224,61 @@ pub(crate) const R104: Field = Field(104, NONE, 0, 20);
 
 pub(crate) const R105: Field = Field(105, NONE, 0xC0, 0x3F);
 
-pub(crate) const R106: Field = Field(106, NONE, 0, 31);
+pub(crate) const R106: Field = Field(106, NONE, 0, LAST_DESTINATION);
 
 pub(crate) const R107: Field = Field(107, NONE, 0, 20);
 
 pub(crate) const R108: Field = Field(108, NONE, 0xC0, 0x3F);
 
-pub(crate) const R109: Field = Field(109, NONE, 0, 31);
+pub(crate) const R109: Field = Field(109, NONE, 0, LAST_DESTINATION);
 
 pub(crate) const R110: Field = Field(110, NONE, 0, 20);
 
 pub(crate) const R111: Field = Field(111, NONE, 0xC0, 0x3F);
 
-pub(crate) const R112: Field = Field(112, NONE, 0, 31);
+pub(crate) const R112: Field = Field(112, NONE, 0, LAST_DESTINATION);
 
 pub(crate) const R113: Field = Field(113, NONE, 0, 20);
 
 pub(crate) const R114: Field = Field(114, NONE, 0xC0, 0x3F);
 
-pub(crate) const R115: Field = Field(115, NONE, 0, 31);
+pub(crate) const R115: Field = Field(115, NONE, 0, LAST_DESTINATION);
 
 pub(crate) const R116: Field = Field(116, NONE, 0, 20);
 
 pub(crate) const R117: Field = Field(117, NONE, 0xC0, 0x3F);
 
-pub(crate) const R118: Field = Field(118, NONE, 0, 31);
+pub(crate) const R118: Field = Field(118, NONE, 0, LAST_DESTINATION);
 
 pub(crate) const R119: Field = Field(119, NONE, 0, 20);
 
 pub(crate) const R120: Field = Field(120, NONE, 0xC0, 0x3F);
 
-pub(crate) const R121: Field = Field(121, NONE, 0, 31);
+pub(crate) const R121: Field = Field(121, NONE, 0, LAST_DESTINATION);
 
 pub(crate) const R122: Field = Field(122, NONE, 0, 20);
 
 pub(crate) const R123: Field = Field(123, NONE, 0xC0, 0x3F);
 
-pub(crate) const R124: Field = Field(124, NONE, 0, 31);
+pub(crate) const R124: Field = Field(124, NONE, 0, LAST_DESTINATION);
 
 pub(crate) const R125: Field = Field(125, NONE, 0, 20);
 
 pub(crate) const R126: Field = Field(126, NONE, 0xC0, 0x3F);
 
-pub(crate) const R127: Field = Field(127, NONE, 0, 31);
+pub(crate) const R127: Field = Field(127, NONE, 0, LAST_DESTINATION);
 
 pub(crate) const R128: Field = Field(128, NONE, 0, 20);
 
 pub(crate) const R129: Field = Field(129, NONE, 0xC0, 0x3F);
 
-pub(crate) const R130: Field = Field(130, NONE, 0, 31);
+pub(crate) const R130: Field = Field(130, NONE, 0, LAST_DESTINATION);
 
 pub(crate) const R131: Field = Field(131, NONE, 0, 20);
 
 pub(crate) const R132: Field = Field(132, NONE, 0xC0, 0x3F);
 
-pub(crate) const R133: Field = Field(133, NONE, 0, 31);
+pub(crate) const R133: Field = Field(133, NONE, 0, LAST_DESTINATION);
 
 // How many numbers the listing has.
 pub(crate) const NUMBERS: usize = 4 * PLACES;

@@ -6,6 +6,10 @@ use crate::patch::{half_used, BUSES};
 use crate::table::{allows, parameter_of, place_of, PATCH_LENGTH, ROWS};
 use crate::NAME_LENGTH;
 
+/// The places of a source and a destination; all buses have the ranges of the first.
+const SOURCE: usize = BUSES;
+const DESTINATION: usize = BUSES + 2;
+
 /// A patch in range, each bus used or unused as a whole.
 pub fn good_patch(random: &mut Random) -> [u8; PATCH_LENGTH] {
     let mut patch = [0; PATCH_LENGTH];
@@ -17,7 +21,7 @@ pub fn good_patch(random: &mut Random) -> [u8; PATCH_LENGTH] {
         if random.one_in(3) {
             (*source, *destination) = (0, 0);
         } else if half_used(*source, *destination) {
-            (*source, *destination) = (random.byte_within(1..=20), random.byte_within(1..=31));
+            (*source, *destination) = used_bus(random);
         }
     }
     patch
@@ -54,10 +58,20 @@ pub fn bad_byte(random: &mut Random, place: usize) -> u8 {
 pub fn out_of_range_patch(random: &mut Random) -> [u8; PATCH_LENGTH] {
     let mut patch = good_patch(random);
     for _ in 0..random.within(1..=3) {
-        let place = random.below(PATCH_LENGTH);
+        let place = any_place(random);
         patch[place] = bad_byte(random, place);
     }
     patch
+}
+
+/// A place of a patch, half the time in a bus: the buses stand last, and the lowest bad place is the
+/// one answered.
+fn any_place(random: &mut Random) -> usize {
+    if random.one_in(2) {
+        random.within(BUSES..=PATCH_LENGTH - 1)
+    } else {
+        random.below(PATCH_LENGTH)
+    }
 }
 
 /// A patch in range with one to three buses half used.
@@ -70,12 +84,27 @@ pub fn half_used_patch(random: &mut Random) -> [u8; PATCH_LENGTH] {
     patch
 }
 
+/// A source and a destination, neither of them zero.
+fn used_bus(random: &mut Random) -> (u8, u8) {
+    (used_code(random, SOURCE), used_code(random, DESTINATION))
+}
+
 /// A source and a destination, one of them zero.
 fn half_used_bus(random: &mut Random) -> (u8, u8) {
     if random.one_in(2) {
-        (random.byte_within(1..=20), 0)
+        (used_code(random, SOURCE), 0)
     } else {
-        (0, random.byte_within(1..=31))
+        (0, used_code(random, DESTINATION))
+    }
+}
+
+/// A source or a destination that isn't zero, the greatest more often than the rest.
+fn used_code(random: &mut Random, place: usize) -> u8 {
+    loop {
+        let code = good_byte(random, place);
+        if code != 0 {
+            return code;
+        }
     }
 }
 
@@ -86,7 +115,7 @@ pub fn bad_patch(random: &mut Random) -> [u8; PATCH_LENGTH] {
         2 | 3 => half_used_patch(random),
         _ => {
             let mut patch = half_used_patch(random);
-            let place = random.below(PATCH_LENGTH);
+            let place = any_place(random);
             patch[place] = bad_byte(random, place);
             patch
         }
@@ -198,29 +227,33 @@ pub fn edit(random: &mut Random) -> [u8; 2] {
 pub fn good_bus_edit(random: &mut Random) -> [u8; 4] {
     let bus = random.byte_within(0..=9);
     let amount = random.byte_within(0..=127);
-    if random.one_in(4) {
-        [bus, 0, amount, 0]
+    let (source, destination) = if random.one_in(4) {
+        (0, 0)
     } else {
-        let source = random.byte_within(1..=20);
-        [bus, source, amount, random.byte_within(1..=31)]
-    }
+        used_bus(random)
+    };
+    [bus, source, amount, destination]
 }
 
 /// A matrix modulation edit as handed to a routine: any four bytes, with a liking for the edges.
 pub fn bus_edit(random: &mut Random) -> [u8; 4] {
     let mut edit = good_bus_edit(random);
-    match random.below(6) {
+    match random.below(7) {
         0 => {
             (edit[1], edit[3]) = half_used_bus(random);
         }
         1 => {
-            const EDGES: [u8; 12] = [0, 9, 10, 20, 21, 31, 32, 33, 63, 64, 127, 128];
+            const EDGES: [u8; 11] = [0, 9, 10, 20, 21, 32, 33, 63, 64, 127, 128];
             for _ in 0..random.within(1..=2) {
                 edit[random.below(4)] = random.pick(&EDGES);
             }
         }
         2 => edit[random.below(4)] = random.byte(),
         3 => edit = std::array::from_fn(|_| random.byte()),
+        4 => {
+            let (index, place) = random.pick(&[(1, SOURCE), (3, DESTINATION)]);
+            edit[index] = bad_byte(random, place);
+        }
         _ => {}
     }
     edit

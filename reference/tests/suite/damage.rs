@@ -3,10 +3,11 @@
 use reference::streams::damage::{damageable, Damage};
 use reference::streams::{inputs, stream, Random};
 use reference::{
-    read, reports, set_name, walk, write_edit_buffer, write_master, write_patch, Reading, Report,
+    apply_bus_edit, read, reports, set_name, walk, write_edit_buffer, write_master, write_patch,
+    Reading, Report,
 };
 
-use crate::kit::{outcome, report, written, P};
+use crate::kit::{bus_message, outcome, report, written, P};
 
 /// The lengths of buffers lent for reading.
 const LENT: [usize; 5] = [0, 133, 134, 172, 200];
@@ -156,6 +157,20 @@ fn a_dump_whose_sum_is_the_manufacturer() {
     let dump = written(|out| write_patch(6, &patch, out));
     assert_eq!(dump[273], 0x10);
     survives_all(&[0xF0], &dump, &[0x06, 0x06, 0x15, 0x7F, 0xF7]);
+}
+
+#[test]
+fn dumps_that_route_a_lever_to_portamento_time() {
+    let mut patch = bass();
+    for bus in [0, 9] {
+        assert_eq!(apply_bus_edit(&mut patch, bus, 18, 0x14, 32), outcome(0, 0));
+    }
+    let number = written(|out| write_patch(41, &patch, out));
+    let buffer = written(|out| write_edit_buffer(&patch, out));
+    let taken = bus_message([9, 20, 0x40, 32]);
+    let refused = bus_message([9, 20, 0x40, 33]);
+    survives_all(&taken, &number, &refused);
+    survives_all(&refused, &buffer, &[&number[..], &taken].concat());
 }
 
 #[test]

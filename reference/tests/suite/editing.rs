@@ -6,7 +6,7 @@ use reference::{
     write_edit, Outcome,
 };
 
-use crate::kit::outcome;
+use crate::kit::{bus_message, outcome};
 use crate::model;
 
 #[test]
@@ -84,7 +84,7 @@ fn expected_bus_edit(bus: u8, source: u8, amount: u8, destination: u8) -> Outcom
         outcome(8, 0)
     } else if source > 20 {
         outcome(11, 104 + 3 * number)
-    } else if destination > 31 {
+    } else if destination > 32 {
         outcome(11, 106 + 3 * number)
     } else if (source == 0) != (destination == 0) {
         outcome(12, number)
@@ -107,20 +107,9 @@ fn reading_writing_and_applying_an_edit_answer_alike() {
         let applied = apply_edit(&mut patch, parameter, value);
         alike(read.answer, read.detail, 6, wrote, 7, applied);
 
-        let [bus, source, amount, destination] =
-            inputs::bus_edit(&mut random).map(|byte| byte & 0x7F);
-        let message = [
-            0xF0,
-            0x10,
-            0x06,
-            0x0B,
-            bus,
-            source,
-            amount,
-            destination,
-            0xF7,
-        ];
-        let read = walk(&message, 0);
+        let bytes = inputs::bus_edit(&mut random).map(|byte| byte & 0x7F);
+        let [bus, source, amount, destination] = bytes;
+        let read = walk(&bus_message(bytes), 0);
         let wrote = write_bus_edit(bus, source, amount, destination, &mut out);
         let applied = apply_bus_edit(&mut patch, bus, source, amount, destination);
         alike(read.answer, read.detail, 11, wrote, 9, applied);

@@ -1,16 +1,16 @@
-//! Every example of document 01, starred or not.
+//! All examples of document 01, starred or not, as document 02 amends them.
 
 use reference::{
     apply_bus_edit, apply_edit, extend, listing, place_of, read, set_name, show_name, test_patch,
     walk, write_bus_edit, write_edit, write_patch,
 };
 
-use crate::kit::{outcome, report, written, P};
+use crate::kit::{bus_message, outcome, report, written, P};
 
-/// P with one byte set.
-fn p_with(place: usize, byte: u8) -> [u8; 134] {
+/// P with these bytes at a place.
+fn p_with(place: usize, bytes: &[u8]) -> [u8; 134] {
     let mut patch = P;
-    patch[place] = byte;
+    patch[place..][..bytes.len()].copy_from_slice(bytes);
     patch
 }
 
@@ -41,23 +41,13 @@ fn done_edit(parameter: u8, value: u8, place: usize, byte: u8) {
     assert_eq!(written(|out| write_edit(parameter, value, out)), message);
     let mut patch = P;
     assert_eq!(apply_edit(&mut patch, parameter, value), outcome(0, 0));
-    assert_eq!(patch, p_with(place, byte));
+    assert_eq!(patch, p_with(place, &[byte]));
 }
 
-/// The same for a matrix modulation edit.
-fn refused_bus_edit([bus, source, amount, destination]: [u8; 4], answer: u8, detail: usize) {
-    let message = [
-        0xF0,
-        0x10,
-        0x06,
-        0x0B,
-        bus,
-        source,
-        amount,
-        destination,
-        0xF7,
-    ];
-    assert_eq!(walk(&message, 0), report(0, 9, answer, detail));
+/// Reading, writing and applying a matrix modulation edit give the same refusal.
+fn refused_bus_edit(bytes: [u8; 4], answer: u8, detail: usize) {
+    let [bus, source, amount, destination] = bytes;
+    assert_eq!(walk(&bus_message(bytes), 0), report(0, 9, answer, detail));
     let mut out = [0xA5; 9];
     assert_eq!(
         write_bus_edit(bus, source, amount, destination, &mut out),
@@ -70,6 +60,25 @@ fn refused_bus_edit([bus, source, amount, destination]: [u8; 4], answer: u8, det
         outcome(answer, detail)
     );
     assert_eq!(patch, P);
+}
+
+/// Reading, writing and applying a matrix modulation edit are done, and a bus of P becomes this.
+fn done_bus_edit(bytes: [u8; 4], place: usize, stored: [u8; 3]) {
+    let [bus, source, amount, destination] = bytes;
+    let message = bus_message(bytes);
+    assert_eq!(
+        written(|out| write_bus_edit(bus, source, amount, destination, out)),
+        message
+    );
+    let reading = read(&message, 0, &mut []);
+    assert_eq!((reading.answer, reading.detail), (0, 0x0B));
+    assert_eq!(reading.bytes, bytes);
+    let mut patch = P;
+    assert_eq!(
+        apply_bus_edit(&mut patch, bus, source, amount, destination),
+        outcome(0, 0)
+    );
+    assert_eq!(patch, p_with(place, &stored));
 }
 
 #[test]
@@ -140,16 +149,17 @@ fn dco_1_frequency_and_parameter_39() {
 
 #[test]
 fn bus_9() {
-    let message = [0xF0, 0x10, 0x06, 0x0B, 9, 20, 0x40, 31, 0xF7];
-    assert_eq!(written(|out| write_bus_edit(9, 20, 0x40, 31, out)), message);
-    let reading = read(&message, 0, &mut []);
-    assert_eq!((reading.answer, reading.detail), (0, 0x0B));
-    assert_eq!(reading.bytes, [9, 20, 0x40, 31]);
-    let mut patch = P;
-    assert_eq!(apply_bus_edit(&mut patch, 9, 20, 0x40, 31), outcome(0, 0));
-    assert_eq!(patch[131..], [0x14, 0xC0, 0x1F]);
-    assert_eq!(patch[..131], P[..131]);
-    refused_bus_edit([9, 20, 0x40, 32], 11, 133);
+    done_bus_edit([9, 20, 0x40, 31], 131, [0x14, 0xC0, 0x1F]);
+    done_bus_edit([9, 20, 0x40, 32], 131, [0x14, 0xC0, 0x20]);
+    refused_bus_edit([9, 20, 0x40, 33], 11, 133);
+    for (destination, tested) in [
+        (31, outcome(0, 0)),
+        (32, outcome(0, 0)),
+        (33, outcome(11, 133)),
+    ] {
+        let patch = p_with(131, &[0x14, 0xC0, destination]);
+        assert_eq!(test_patch(&patch), tested);
+    }
 }
 
 #[test]

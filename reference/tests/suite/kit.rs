@@ -24,6 +24,20 @@ pub const fn report(start: usize, end: usize, answer: u8, detail: usize) -> Repo
     }
 }
 
+/// A patch dump with its sum, untested, for building messages with faults.
+pub fn dump(opcode: u8, second: u8, patch: &[u8; 134]) -> Vec<u8> {
+    let mut message = vec![0xF0, 0x10, 0x06, opcode, second];
+    message.extend(patch.iter().flat_map(|byte| [byte % 16, byte / 16]));
+    let sum: u32 = patch.iter().map(|&byte| u32::from(byte)).sum();
+    message.extend([(sum % 128) as u8, 0xF7]);
+    message
+}
+
+/// A matrix modulation edit's message: bus, source, amount, destination.
+pub fn bus_message(bytes: [u8; 4]) -> Vec<u8> {
+    [&[0xF0, 0x10, 0x06, 0x0B], &bytes[..], &[0xF7]].concat()
+}
+
 /// Reads with a buffer that must be long enough, and gives what was put into it.
 pub fn record(input: &[u8], place: usize) -> (Reading, Vec<u8>) {
     let mut buffer = [0xA5; 172];

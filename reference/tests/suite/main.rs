@@ -7,6 +7,7 @@ mod hostile;
 mod kit;
 mod model;
 mod other_machines;
+mod portamento;
 mod programs;
 mod refusals;
 mod round_trips;

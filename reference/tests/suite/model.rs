@@ -1,4 +1,5 @@
-//! Document 01 once more, as slowly and plainly as it can be said, to hold the quick code against.
+//! Document 01 once more, with document 02's destinations, as slowly and plainly as it can be said,
+//! to hold the quick code against.
 
 /// The condensed line of document 01 for bytes 8 to 85.
 const LINE: &str = "8:48:2 9:0:6 10:5:6 11:3:6 12:7:2 13:6:2 14:10:6 15:15:6 16:13:6 17:17:2 \
@@ -13,7 +14,10 @@ const AMOUNTS: [u8; 18] = [
     1, 4, 11, 14, 22, 23, 28, 29, 56, 66, 76, 85, 95, 45, 31, 32, 81, 91,
 ];
 
-/// Parameter, least and greatest of all 134 places, as document 01 tells them.
+/// The last destination of Table 3, Portamento Time.
+const LAST_DESTINATION: u8 = 32;
+
+/// Parameter, least and greatest of all 134 places, as the papers tell them.
 pub fn fields() -> Vec<(Option<u8>, i32, i32)> {
     let mut fields = vec![(None, 0, 63); 8];
     for entry in LINE.split_whitespace() {
@@ -34,7 +38,8 @@ pub fn fields() -> Vec<(Option<u8>, i32, i32)> {
     }
     fields.extend(AMOUNTS.map(|parameter| (Some(parameter), -64, 63)));
     for _ in 0..10 {
-        fields.extend([(None, 0, 20), (None, -64, 63), (None, 0, 31)]);
+        let destination = (None, 0, i32::from(LAST_DESTINATION));
+        fields.extend([(None, 0, 20), (None, -64, 63), destination]);
     }
     fields
 }
@@ -140,7 +145,7 @@ fn bus_edit(bus: u8, bytes: &[u8]) -> Option<(u8, usize)> {
     if bytes[0] > 20 {
         return Some((11, 104 + 3 * bus));
     }
-    if bytes[2] > 31 {
+    if bytes[2] > LAST_DESTINATION {
         return Some((11, 106 + 3 * bus));
     }
     ((bytes[0] == 0) != (bytes[2] == 0)).then_some((12, bus))

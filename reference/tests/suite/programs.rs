@@ -99,5 +99,5 @@ fn the_table_program() {
     assert_eq!(lines[26], "26 21 0 127");
     assert_eq!(lines[76], "76 33 1 20");
     assert_eq!(lines[103], "103 91 -64 63");
-    assert_eq!(lines[133], "133 - 0 31");
+    assert_eq!(lines[133], "133 - 0 32");
 }

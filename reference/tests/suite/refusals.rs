@@ -5,7 +5,7 @@ use reference::{
     write_bus_edit, write_edit, write_edit_buffer, write_master, write_patch, BankOutcome, Outcome,
 };
 
-use crate::kit::{outcome, report, P};
+use crate::kit::{dump, outcome, report, P};
 
 /// P with a field out of range at 100 and 9, and buses 7 and 3 half used.
 fn twice_bad() -> [u8; 134] {
@@ -23,15 +23,6 @@ fn half_used() -> [u8; 134] {
     patch
 }
 
-/// An untested single patch dump, for building messages with faults.
-fn dump(number: u8, patch: &[u8; 134]) -> Vec<u8> {
-    let mut message = vec![0xF0, 0x10, 0x06, 0x01, number];
-    message.extend(patch.iter().flat_map(|byte| [byte % 16, byte / 16]));
-    let sum: u32 = patch.iter().map(|&byte| u32::from(byte)).sum();
-    message.extend([(sum % 128) as u8, 0xF7]);
-    message
-}
-
 #[test]
 fn a_patch() {
     for length in [0, 1, 133, 135, 268] {
@@ -44,7 +35,7 @@ fn a_patch() {
 
 #[test]
 fn a_message_with_every_fault_mended_in_turn() {
-    let mut message = dump(100, &twice_bad());
+    let mut message = dump(0x01, 100, &twice_bad());
     message[1] = 0x41;
     message[2] = 0x02;
     message[3] = 0x02;
@@ -88,10 +79,10 @@ fn a_message_with_every_fault_mended_in_turn() {
     expect(&message, 10, 0);
     message[273] ^= 1;
     expect(&message, 11, 9);
-    expect(&dump(99, &half_used()), 12, 3);
+    expect(&dump(0x01, 99, &half_used()), 12, 3);
 
     // Only then is the buffer's length asked for.
-    let good = dump(99, &P);
+    let good = dump(0x01, 99, &P);
     let reading = read(&good, 0, &mut buffer);
     assert_eq!((reading.answer, reading.detail), (13, 0));
     assert_eq!((reading.start, reading.end), (0, 275));
@@ -127,8 +118,7 @@ fn versions_and_the_zero_of_0dh() {
         let (answer, detail) = if version == 3 { (0, 3) } else { (8, 0) };
         assert_eq!(walk(&master, 0), report(0, 351, answer, detail));
     }
-    let mut buffer = dump(0, &P);
-    buffer[3] = 0x0D;
+    let mut buffer = dump(0x0D, 0, &P);
     for zero in 0..=127 {
         buffer[4] = zero;
         let (answer, detail) = if zero == 0 { (0, 0x0D) } else { (8, 0) };
@@ -173,12 +163,12 @@ fn writing_edits() {
     refuses(6, 11, 9, |out| write_edit(0, 0x7F, out));
     refuses(6, 13, 0, |out| write_edit(0, 0x3F, out));
 
-    refuses(8, 8, 0, |out| write_bus_edit(10, 21, 0x80, 32, out));
-    refuses(8, 8, 0, |out| write_bus_edit(9, 21, 0x80, 32, out));
-    refuses(8, 11, 131, |out| write_bus_edit(9, 21, 0x40, 32, out));
-    refuses(8, 11, 133, |out| write_bus_edit(9, 0, 0x40, 32, out));
-    refuses(8, 12, 9, |out| write_bus_edit(9, 0, 0x40, 31, out));
-    refuses(8, 13, 0, |out| write_bus_edit(9, 20, 0x40, 31, out));
+    refuses(8, 8, 0, |out| write_bus_edit(10, 21, 0x80, 33, out));
+    refuses(8, 8, 0, |out| write_bus_edit(9, 21, 0x80, 33, out));
+    refuses(8, 11, 131, |out| write_bus_edit(9, 21, 0x40, 33, out));
+    refuses(8, 11, 133, |out| write_bus_edit(9, 0, 0x40, 33, out));
+    refuses(8, 12, 9, |out| write_bus_edit(9, 0, 0x40, 32, out));
+    refuses(8, 13, 0, |out| write_bus_edit(9, 20, 0x40, 32, out));
 }
 
 #[test]

@@ -2,11 +2,10 @@
 
 use std::collections::BTreeSet;
 
-use reference::reports;
 use reference::streams::{inputs, kind_of, stream, Random, CYCLE};
-use reference::test_patch;
+use reference::{apply_bus_edit, nibbles, reports, test_patch, Outcome};
 
-use crate::kit::outcome;
+use crate::kit::{less_real_time, outcome, P};
 
 #[test]
 fn a_seed_always_makes_the_same_stream() {
@@ -62,4 +61,84 @@ fn good_and_bad_patches_are_what_they_say() {
         lengths.insert(inputs::patch(&mut random).len());
     }
     assert!(lengths.is_superset(&[0, 133, 134, 135].into_iter().collect()));
+}
+
+/// The destinations that an answer to a patch is about: all ten, the one out of range, or that of
+/// the bus half used.
+fn destinations(patch: &[u8], tested: Outcome) -> Vec<u8> {
+    let places: Vec<usize> = (106..134).step_by(3).collect();
+    match (tested.answer, tested.detail) {
+        (0, _) => places.iter().map(|&place| patch[place]).collect(),
+        (11, place) if places.contains(&place) => vec![patch[place]],
+        (12, bus) => vec![patch[places[bus]]],
+        _ => vec![],
+    }
+}
+
+/// The same of an edit.
+fn destination([bus, _, _, destination]: [u8; 4], tested: Outcome) -> Option<u8> {
+    let place = 106 + 3 * usize::from(bus);
+    let about = match tested.answer {
+        0 | 12 => true,
+        11 => tested.detail == place,
+        _ => false,
+    };
+    about.then_some(destination)
+}
+
+/// Answers and destinations to be met: the last one taken, the last one on a bus half used, and the
+/// next refused.
+const MET: [(u8, u8); 3] = [(0, 32), (12, 32), (11, 33)];
+
+#[test]
+fn streams_reach_the_last_destination_and_the_next() {
+    let mut found = BTreeSet::new();
+    for seed in 0..40 * CYCLE {
+        let input = stream(seed);
+        for report in reports(&input) {
+            let message = less_real_time(&input[report.start..report.end]);
+            let tested = outcome(report.answer, report.detail);
+            match message[..] {
+                [0xF0, 0x10, 0x06, 0x0B, a, b, c, d, 0xF7] => {
+                    let edit = destination([a, b, c, d], tested);
+                    found.extend(edit.map(|code| (0x0B, report.answer, code)));
+                }
+                [0xF0, 0x10, 0x06, opcode @ (0x01 | 0x0D), _, ref data @ .., _, 0xF7]
+                    if data.len() == 268 =>
+                {
+                    let mut patch = [0; 134];
+                    nibbles::pack(data, &mut patch);
+                    let codes = destinations(&patch, tested);
+                    found.extend(codes.iter().map(|&code| (opcode, report.answer, code)));
+                }
+                _ => {}
+            }
+        }
+    }
+    for (answer, code) in MET {
+        for opcode in [0x01, 0x0B, 0x0D] {
+            assert!(found.contains(&(opcode, answer, code)), "{opcode} {code}");
+        }
+    }
+}
+
+#[test]
+fn inputs_reach_the_last_destination_and_the_next() {
+    let mut random = Random::new(41);
+    let (mut patches, mut edits) = (BTreeSet::new(), BTreeSet::new());
+    for _ in 0..20_000 {
+        let patch = inputs::patch(&mut random);
+        let tested = test_patch(&patch);
+        let codes = destinations(&patch, tested);
+        patches.extend(codes.iter().map(|&code| (tested.answer, code)));
+
+        let edit @ [bus, source, amount, code] = inputs::bus_edit(&mut random);
+        let mut edited = P;
+        let tested = apply_bus_edit(&mut edited, bus, source, amount, code);
+        edits.extend(destination(edit, tested).map(|code| (tested.answer, code)));
+    }
+    for met in MET {
+        assert!(patches.contains(&met), "{met:?}");
+        assert!(edits.contains(&met), "{met:?}");
+    }
 }

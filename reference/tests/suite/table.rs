@@ -43,7 +43,7 @@ fn a_byte_and_the_byte_128_away_are_never_both_allowed() {
 }
 
 #[test]
-fn the_corrections_of_document_01() {
+fn the_corrections_of_documents_01_and_02() {
     let range = |place: usize| (ROWS[place].least, ROWS[place].greatest);
     assert_eq!(range(19), (-32, 31));
     assert_eq!(range(26), (0, 127));
@@ -56,7 +56,7 @@ fn the_corrections_of_document_01() {
     for bus in 0..10 {
         assert_eq!(range(104 + 3 * bus), (0, 20));
         assert_eq!(range(105 + 3 * bus), (-64, 63));
-        assert_eq!(range(106 + 3 * bus), (0, 31));
+        assert_eq!(range(106 + 3 * bus), (0, 32));
     }
 }
 

@@ -80,3 +80,24 @@ fn edits_turn_p_into_the_patch_they_say() {
     expected[131..].copy_from_slice(&[0x14, 0xC0, 0x1F]);
     assert_eq!(patch, expected);
 }
+
+#[test]
+fn levers_are_routed_to_portamento_time() {
+    let stream = vector("portamento");
+    assert_eq!(name_at(&stream, 0), "GLIDE   ");
+    let (numbered, patch) = record(&stream, 0);
+    assert_eq!(numbered.bytes, [7, 0, 0, 0]);
+    assert_eq!(patch[113..116], [18, 20, 32]);
+    let (_, patch) = record(&stream, 275);
+    assert_eq!(patch[131..], [20, 0xC0, 32]);
+
+    // The edit makes of bus 9 what the second dump has there.
+    let [bus, source, amount, destination] = record(&stream, 550).0.bytes;
+    let mut edited = P;
+    assert_eq!(
+        apply_bus_edit(&mut edited, bus, source, amount, destination),
+        outcome(0, 0)
+    );
+    assert_eq!(edited[..131], P[..131]);
+    assert_eq!(edited[131..], patch[131..]);
+}

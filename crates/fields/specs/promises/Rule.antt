@@ -37,6 +37,6 @@ pub record Rule : Type 0 where
   -- Bus b has its source at 104 + 3b, its amount at 105 + 3b, its destination at 106 + 3b.
   pub bus-source : (b : ℕ) → b < 10 → Goes fields (104 + 3 * b) (plus 0) (plus 20)
   pub bus-amount : (b : ℕ) → b < 10 → Goes fields (105 + 3 * b) (minus 64) (plus 63)
-  pub bus-destination : (b : ℕ) → b < 10 → Goes fields (106 + 3 * b) (plus 0) (plus 31)
+  pub bus-destination : (b : ℕ) → b < 10 → Goes fields (106 + 3 * b) (plus 0) (plus 32)
   -- No range has both a byte and the one 128 higher: what demand 3 needs.
   pub apart : (k b : ℕ) → k < size → inRange k b ≡ true → inRange k (b + 128) ≡ true → ⊥
