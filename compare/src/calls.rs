@@ -192,11 +192,12 @@ pub fn every_edit(random: &mut Random, number: usize) -> Call {
     }
 }
 
-/// The bus edit of a number below 65,536: each source with each destination, on a good patch.
+/// The bus edit of a number below 10 times 65,536: each bus with each source and each destination,
+/// on a good patch.
 pub fn every_bus_edit(random: &mut Random, number: usize) -> Call {
     let patch = inputs::good_patch(random);
-    let [bus, _, amount, _] = inputs::good_bus_edit(random);
-    let [source, destination, ..] = number.to_le_bytes();
+    let [_, _, amount, _] = inputs::good_bus_edit(random);
+    let [source, destination, bus, ..] = number.to_le_bytes();
     Call {
         first: Lent::new(random, &patch),
         second: Lent::filled(random, 9),

@@ -286,8 +286,8 @@ pub static ROUTINES: [Routine; 21] = [
     },
     APPLY_BUS_EDIT,
     Routine {
-        inputs: ", every source and destination",
-        source: Source::Every(65_536, calls::every_bus_edit),
+        inputs: ", every bus, source and destination",
+        source: Source::Every(10 * 65_536, calls::every_bus_edit),
         ..APPLY_BUS_EDIT
     },
     Routine {
@@ -322,8 +322,8 @@ pub static ROUTINES: [Routine; 21] = [
     },
     WRITE_BUS_EDIT,
     Routine {
-        inputs: ", every source and destination",
-        source: Source::Every(65_536, calls::every_bus_edit),
+        inputs: ", every bus, source and destination",
+        source: Source::Every(10 * 65_536, calls::every_bus_edit),
         ..WRITE_BUS_EDIT
     },
     Routine {
