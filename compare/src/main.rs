@@ -2,6 +2,7 @@
 //!
 //!     compare [COUNT] [SEED]     COUNT inputs for each routine (3,000), from SEED on (0)
 //!     compare long [MIB]         reports and growth on inputs of MIB mebibytes (64)
+//!     compare stack [COUNT]      how deep each routine's stack goes, on COUNT inputs each (3,000)
 //!     compare routines           the names of the routines that are compared
 //!
 //! Input number i of a routine is made from seed SEED + i alone. A difference prints that seed, all
@@ -11,6 +12,7 @@ mod calls;
 mod lent;
 mod long;
 mod routines;
+mod stack;
 
 use std::collections::BTreeMap;
 use std::env;
@@ -29,6 +31,8 @@ fn main() -> ExitCode {
     let held = match words[..] {
         ["long"] => long::run(64),
         ["long", mebibytes] => long::run(some(mebibytes)),
+        ["stack"] => stack::run(COUNT),
+        ["stack", count] => stack::run(some(count)),
         ["routines"] => {
             ROUTINES
                 .iter()
@@ -38,7 +42,7 @@ fn main() -> ExitCode {
         [] => compare(COUNT, 0),
         [count] => compare(some(count), 0),
         [count, seed] => compare(some(count), number(seed)),
-        _ => stop("compare [COUNT] [SEED] | compare long [MIB] | compare routines"),
+        _ => stop("compare [COUNT] [SEED] | compare long [MIB] | compare stack [COUNT] | compare routines"),
     };
     ExitCode::from(u8::from(!held))
 }

@@ -1,10 +1,12 @@
 -- The place of a parameter, as the lookup finds it; and as one number, 255 where there is none, which is no place.
 use mathlib.Core.Path.{_≡_, refl, ap, sym, _∙_}
+use mathlib.Core.Bool.{Bool, true, false, cond, _||_}
 use mathlib.Core.Option.{Option, none, some}
-use Prim.Native.Nat.{ℕ, _<_}
+use Prim.Native.Nat.{ℕ, _<_, _≤_}
 use native.Mathlib.Omega.{arith}
-use borrow.Author.Tests.{lt-ltb}
-use Rattle.fields.specs.Fields.{placeOf}
+use lib.Dec.{eqb, leb}
+use borrow.Author.Tests.{lt-ltb, le-leb, eqb-false}
+use Rattle.fields.specs.Fields.{placeOf, parameterOf, parameterAt, size}
 use Rattle.fields.specs.declared.BytePlace.{BytePlace}
 use Rattle.fields.specs.declared.FoundPlace.{FoundPlace}
 use Rattle.fields.specs.declared.FoundPlace.the-variants.{At, Nothing as no-place}
@@ -28,19 +30,32 @@ found-there o f r e q = sym (placed-back o) ∙ sym (ap placed q) ∙ ap placed 
 pub found-nowhere : (o : Option ℕ) (f : FoundPlace) → f ≡ no-place → f ≡ foundPlace o → o ≡ none
 found-nowhere o f e q = sym (placed-back o) ∙ sym (ap placed q) ∙ ap placed e
 
-pub numbered-none : (n : ℕ) → placeOrNone n ≡ 255 → placeOf n ≡ none
-numbered-none n e = go (placeOf n) refl e
-  where
-    go : (o : Option ℕ) → placeOf n ≡ o → orNone o ≡ 255 → placeOf n ≡ none
-    go none q e = q
-    go (some k) q e = let h = found-place n k q .high in absurd (omega arith)
+-- What is 255 as one number is none, and what is not is that number.
+pub numbered-none : (o : Option ℕ) → (o ≡ some 255 → ⊥) → orNone o ≡ 255 → o ≡ none
+numbered-none none n e = refl
+numbered-none (some k) n e = absurd (n (ap some e))
 
-pub numbered-some : (n : ℕ) → (placeOrNone n ≡ 255 → ⊥) → placeOf n ≡ some (placeOrNone n)
-numbered-some n d = go (placeOf n) d
+pub numbered-some : (o : Option ℕ) → (orNone o ≡ 255 → ⊥) → o ≡ some (orNone o)
+numbered-some none d = absurd (d refl)
+numbered-some (some k) d = refl
+
+-- 255 is no place and no parameter.
+pub no-place-255 : (n : ℕ) → placeOf n ≡ some 255 → ⊥
+no-place-255 n e = let h = found-place n 255 e .high in omega arith
+
+pub no-parameter-255 : (k : ℕ) → parameterOf k ≡ some 255 → ⊥
+unfolding parameterOf
+no-parameter-255 k e = go (leb size k) (eqb (parameterAt k) 255) refl e
   where
-    go : (o : Option ℕ) → (orNone o ≡ 255 → ⊥) → o ≡ some (orNone o)
-    go none d = absurd (d refl)
-    go (some k) d = refl
+    go : (t s : Bool) → eqb (parameterAt k) 255 ≡ s → cond (t || s) none (some (parameterAt k)) ≡ some 255 → ⊥
+    go true s q e = let z : _≡_ {A = ℕ} 0 1 = cc in omega arith
+    go false true q e = let z : _≡_ {A = ℕ} 0 1 = cc in omega arith
+    go false false q e = let same : parameterAt k ≡ 255 = cc in eqb-false (parameterAt k) 255 q same
+
+-- No place past the table has a parameter.
+pub parameter-past : (k : ℕ) → size ≤ k → parameterOf k ≡ none
+unfolding parameterOf
+parameter-past k h = simp (le-leb size k h)
 
 -- No parameter above 99 has a place.
 pub place-past : (n : ℕ) → 99 < n → placeOf n ≡ none

@@ -1,10 +1,10 @@
 // What the rows give by column: least values and widths by place, for the test of a whole patch; and for a single look the ranges of four
-// places, or the places of eight parameters, in one number behind a match. A constant array is laid out on the stack wherever it is
-// read, and a match is not. All its numbers are computed from the rows.
+// places, the places of eight parameters or the parameters of eight places in one number behind a match. A constant array is laid out on
+// the stack wherever it is read, and a match is not. All its numbers are computed from the rows.
 use crate::PLACES;
 use crate::rows::*;
 ghost use Prim.Native.Nat.{_*_};
-ghost use Rattle.fields.specs.code.Columns.{rangeAt, placeOrNone, InWord};
+ghost use Rattle.fields.specs.code.Columns.{rangeAt, placeOrNone, parameterOrNone, InWord};
 
 // The range of each byte in one number, least + 256 * width. The width is how far its values go above the least: greatest minus least,
 // modulo 256.
@@ -621,7 +621,7 @@ const RANGES_32: u64 = S128 + (S129 << 16) + (S130 << 32) + (S131 << 48);
 
 const RANGES_33: u64 = S132 + (S133 << 16);
 
-// A place that is none.
+// A place or a parameter that is none.
 pub(crate) const NOWHERE: u64 = 255;
 
 // The places of eight parameters from 0, 8, 16 and so on: each is the place of the row that has the parameter.
@@ -742,6 +742,160 @@ const PLACES_12: u64 = R43.0 as u64
     + (NOWHERE << 48)
     + (NOWHERE << 56);
 
+// The parameters of eight places from 0, 8, 16 and so on.
+const PARAMETERS_0: u64 = R0.1 as u64
+    + ((R1.1 as u64) << 8)
+    + ((R2.1 as u64) << 16)
+    + ((R3.1 as u64) << 24)
+    + ((R4.1 as u64) << 32)
+    + ((R5.1 as u64) << 40)
+    + ((R6.1 as u64) << 48)
+    + ((R7.1 as u64) << 56);
+
+const PARAMETERS_1: u64 = R8.1 as u64
+    + ((R9.1 as u64) << 8)
+    + ((R10.1 as u64) << 16)
+    + ((R11.1 as u64) << 24)
+    + ((R12.1 as u64) << 32)
+    + ((R13.1 as u64) << 40)
+    + ((R14.1 as u64) << 48)
+    + ((R15.1 as u64) << 56);
+
+const PARAMETERS_2: u64 = R16.1 as u64
+    + ((R17.1 as u64) << 8)
+    + ((R18.1 as u64) << 16)
+    + ((R19.1 as u64) << 24)
+    + ((R20.1 as u64) << 32)
+    + ((R21.1 as u64) << 40)
+    + ((R22.1 as u64) << 48)
+    + ((R23.1 as u64) << 56);
+
+const PARAMETERS_3: u64 = R24.1 as u64
+    + ((R25.1 as u64) << 8)
+    + ((R26.1 as u64) << 16)
+    + ((R27.1 as u64) << 24)
+    + ((R28.1 as u64) << 32)
+    + ((R29.1 as u64) << 40)
+    + ((R30.1 as u64) << 48)
+    + ((R31.1 as u64) << 56);
+
+const PARAMETERS_4: u64 = R32.1 as u64
+    + ((R33.1 as u64) << 8)
+    + ((R34.1 as u64) << 16)
+    + ((R35.1 as u64) << 24)
+    + ((R36.1 as u64) << 32)
+    + ((R37.1 as u64) << 40)
+    + ((R38.1 as u64) << 48)
+    + ((R39.1 as u64) << 56);
+
+const PARAMETERS_5: u64 = R40.1 as u64
+    + ((R41.1 as u64) << 8)
+    + ((R42.1 as u64) << 16)
+    + ((R43.1 as u64) << 24)
+    + ((R44.1 as u64) << 32)
+    + ((R45.1 as u64) << 40)
+    + ((R46.1 as u64) << 48)
+    + ((R47.1 as u64) << 56);
+
+const PARAMETERS_6: u64 = R48.1 as u64
+    + ((R49.1 as u64) << 8)
+    + ((R50.1 as u64) << 16)
+    + ((R51.1 as u64) << 24)
+    + ((R52.1 as u64) << 32)
+    + ((R53.1 as u64) << 40)
+    + ((R54.1 as u64) << 48)
+    + ((R55.1 as u64) << 56);
+
+const PARAMETERS_7: u64 = R56.1 as u64
+    + ((R57.1 as u64) << 8)
+    + ((R58.1 as u64) << 16)
+    + ((R59.1 as u64) << 24)
+    + ((R60.1 as u64) << 32)
+    + ((R61.1 as u64) << 40)
+    + ((R62.1 as u64) << 48)
+    + ((R63.1 as u64) << 56);
+
+const PARAMETERS_8: u64 = R64.1 as u64
+    + ((R65.1 as u64) << 8)
+    + ((R66.1 as u64) << 16)
+    + ((R67.1 as u64) << 24)
+    + ((R68.1 as u64) << 32)
+    + ((R69.1 as u64) << 40)
+    + ((R70.1 as u64) << 48)
+    + ((R71.1 as u64) << 56);
+
+const PARAMETERS_9: u64 = R72.1 as u64
+    + ((R73.1 as u64) << 8)
+    + ((R74.1 as u64) << 16)
+    + ((R75.1 as u64) << 24)
+    + ((R76.1 as u64) << 32)
+    + ((R77.1 as u64) << 40)
+    + ((R78.1 as u64) << 48)
+    + ((R79.1 as u64) << 56);
+
+const PARAMETERS_10: u64 = R80.1 as u64
+    + ((R81.1 as u64) << 8)
+    + ((R82.1 as u64) << 16)
+    + ((R83.1 as u64) << 24)
+    + ((R84.1 as u64) << 32)
+    + ((R85.1 as u64) << 40)
+    + ((R86.1 as u64) << 48)
+    + ((R87.1 as u64) << 56);
+
+const PARAMETERS_11: u64 = R88.1 as u64
+    + ((R89.1 as u64) << 8)
+    + ((R90.1 as u64) << 16)
+    + ((R91.1 as u64) << 24)
+    + ((R92.1 as u64) << 32)
+    + ((R93.1 as u64) << 40)
+    + ((R94.1 as u64) << 48)
+    + ((R95.1 as u64) << 56);
+
+const PARAMETERS_12: u64 = R96.1 as u64
+    + ((R97.1 as u64) << 8)
+    + ((R98.1 as u64) << 16)
+    + ((R99.1 as u64) << 24)
+    + ((R100.1 as u64) << 32)
+    + ((R101.1 as u64) << 40)
+    + ((R102.1 as u64) << 48)
+    + ((R103.1 as u64) << 56);
+
+const PARAMETERS_13: u64 = R104.1 as u64
+    + ((R105.1 as u64) << 8)
+    + ((R106.1 as u64) << 16)
+    + ((R107.1 as u64) << 24)
+    + ((R108.1 as u64) << 32)
+    + ((R109.1 as u64) << 40)
+    + ((R110.1 as u64) << 48)
+    + ((R111.1 as u64) << 56);
+
+const PARAMETERS_14: u64 = R112.1 as u64
+    + ((R113.1 as u64) << 8)
+    + ((R114.1 as u64) << 16)
+    + ((R115.1 as u64) << 24)
+    + ((R116.1 as u64) << 32)
+    + ((R117.1 as u64) << 40)
+    + ((R118.1 as u64) << 48)
+    + ((R119.1 as u64) << 56);
+
+const PARAMETERS_15: u64 = R120.1 as u64
+    + ((R121.1 as u64) << 8)
+    + ((R122.1 as u64) << 16)
+    + ((R123.1 as u64) << 24)
+    + ((R124.1 as u64) << 32)
+    + ((R125.1 as u64) << 40)
+    + ((R126.1 as u64) << 48)
+    + ((R127.1 as u64) << 56);
+
+const PARAMETERS_16: u64 = R128.1 as u64
+    + ((R129.1 as u64) << 8)
+    + ((R130.1 as u64) << 16)
+    + ((R131.1 as u64) << 24)
+    + ((R132.1 as u64) << 32)
+    + ((R133.1 as u64) << 40)
+    + (NOWHERE << 48)
+    + (NOWHERE << 56);
+
 // The ranges of the four bytes from 4 * i on in one number; 0 past the table.
 pub(crate) fn four_ranges(i: usize) -> u64
     ensures { λ r. ⌜ InWord 16 rangeAt 4 (4 * i) r ⌝ }
@@ -803,6 +957,32 @@ pub(crate) fn eight_places(i: usize) -> u64
         10 => PLACES_10,
         11 => PLACES_11,
         12 => PLACES_12,
+        _ => 0xFFFF_FFFF_FFFF_FFFF,
+    }
+}
+
+// The parameters of the eight places from 8 * i on in one number; 255 where a place has none.
+pub(crate) fn eight_parameters(i: usize) -> u64
+    ensures { λ r. ⌜ InWord 8 parameterOrNone 8 (8 * i) r ⌝ }
+{
+    match i {
+        0 => PARAMETERS_0,
+        1 => PARAMETERS_1,
+        2 => PARAMETERS_2,
+        3 => PARAMETERS_3,
+        4 => PARAMETERS_4,
+        5 => PARAMETERS_5,
+        6 => PARAMETERS_6,
+        7 => PARAMETERS_7,
+        8 => PARAMETERS_8,
+        9 => PARAMETERS_9,
+        10 => PARAMETERS_10,
+        11 => PARAMETERS_11,
+        12 => PARAMETERS_12,
+        13 => PARAMETERS_13,
+        14 => PARAMETERS_14,
+        15 => PARAMETERS_15,
+        16 => PARAMETERS_16,
         _ => 0xFFFF_FFFF_FFFF_FFFF,
     }
 }

@@ -3,10 +3,10 @@ pub mod columns;
 mod rows;
 
 use crate::columns::NOWHERE;
+use crate::columns::eight_parameters;
 use crate::columns::eight_places;
 use crate::columns::four_ranges;
 use crate::rows::FIELDS;
-use crate::rows::NONE;
 use crate::rows::R0;
 use crate::rows::R26;
 use crate::rows::R104;
@@ -106,19 +106,16 @@ pub fn place_of(parameter: Parameter) -> FoundPlace
     FoundPlace::At(BytePlace(k as u8))
 }
 
-// The parameter of a place, by the table.
+// The parameter of a place, by the table's columns.
 pub fn parameter_of(place: BytePlace) -> FoundParameter
     ensures { λ r. ⌜ r ≡ foundParameter (parameterOf (place .0)) ⌝ }
 {
     let k = place.0 as usize;
-    if PLACES <= k {
+    let n = (eight_parameters(k / 8) >> (8 * (k % 8))) % 256;
+    if n == NOWHERE {
         return FoundParameter::Nothing;
     }
-    let n = entry(place, 1);
-    if n == NONE {
-        return FoundParameter::Nothing;
-    }
-    FoundParameter::Of(Parameter(n))
+    FoundParameter::Of(Parameter(n as u8))
 }
 
 // A byte lies in the range of its field. Past the table both bounds are 0.

@@ -3,3 +3,4 @@ pub mod Kept
 pub mod Found
 pub mod Handing
 pub mod Blocks
+pub mod Past

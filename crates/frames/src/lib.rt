@@ -8,7 +8,7 @@ ghost use lib.Dec.{eqb};
 ghost use Prim.Native.Nat.{_+_, _≤_};
 ghost use lib.ListN.{length};
 ghost use Rattle.streams.specs.Bytes.{withoutRealTime};
-ghost use Rattle.frames.specs.code.Extent.{ahead, startAt, spanOf, Kept};
+ghost use Rattle.frames.specs.code.Extent.{ahead, startAt, spanOf, pastRealTime, Kept};
 ghost use Rattle.frames.specs.code.Blocks.{None, Ahead, Onward};
 
 // System exclusive, and end of exclusive: real time lies above it.
@@ -146,6 +146,20 @@ pub fn find_end(rest: &[u8]) -> Span
         noise,
         ending: CUT,
     }
+}
+
+// Where the first byte at a place or later stands that is not real time; no place of the bytes where there is none.
+pub fn past_real_time(bytes: &[u8], place: usize) -> usize
+    ensures { λ r. ⌜ r ≡ pastRealTime (now (bytes .entry)) place ⌝ }
+{
+    let mut i: usize = place;
+    while i < bytes.len() {
+        if bytes[i] <= END {
+            return i;
+        }
+        i += 1;
+    }
+    i
 }
 
 // The bytes that are not real time, at the start of `out`, as many as fit; and how many they are.

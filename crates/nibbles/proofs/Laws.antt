@@ -6,7 +6,7 @@ use mathlib.Core.List.{List, [], _∷_, _++_, append-assoc, append-nil, tail-eq-
 use mathlib.Core.Logic.{_⊎_, inl, inr}
 use mathlib.Core.Option.{none, some}
 use Prim.Native.Nat.{ℕ, zero, suc, _+_, _*_, _/_, _%_, _≤_, _<_}
-use native.Mathlib.Nat.{le-of-suc-le-suc}
+use native.Mathlib.Nat.{add-zero, add-assoc, mod-add-mod, le-of-suc-le-suc}
 use native.Mathlib.Numerals.{add-one}
 use native.Mathlib.Omega.{arith}
 use lib.Dec.{ltb}
@@ -16,6 +16,7 @@ use borrow.Author.Tests.{ltb-true, ltb-false, lt-ltb, le-ltb, eq-eqb, ne-eqb}
 use Rattle.answers.specs.Lists.{All}
 use Rattle.answers.specs.Table.{outcome}
 use Rattle.nibbles.specs.promises.Inverse.{FirstWideAt, Inverse}
+use Rattle.nibbles.specs.promises.Reduced.{reducing, Reduced}
 use Rattle.nibbles.specs.Nibbles.{nibbles, pack, total, sum, wideFrom, firstWide, packing, unpacking}
 
 -- Nibbles and packing.
@@ -157,6 +158,33 @@ pub sum-below : (p : List ℕ) → sum p < 128
 unfolding sum
 sum-below p = omega arith
 
+-- What is reduced at each step is reduced at the end.
+at-the-end : (m s : ℕ) (bytes : List ℕ) → reducing m (s % m) bytes ≡ (s + total bytes) % m
+unfolding reducing total
+at-the-end m s [] = rw (add-zero s)
+at-the-end m s (b ∷ bytes) = rw (mod-add-mod s m b, at-the-end m (s + b) bytes, add-assoc s b (total bytes))
+
+in-a-byte : (s : ℕ) (bytes : List ℕ) → s < 256 → reducing 256 s bytes < 256
+unfolding reducing
+in-a-byte s [] h = h
+in-a-byte s (b ∷ bytes) h = in-a-byte ((s + b) % 256) bytes (omega arith)
+
+by-128 : (bytes : List ℕ) → reducing 128 0 bytes ≡ sum bytes
+unfolding sum
+by-128 bytes = omega (arith, at-the-end 128 0 bytes)
+
+by-256 : (bytes : List ℕ) → reducing 256 0 bytes % 128 ≡ sum bytes
+unfolding sum
+by-256 bytes = omega (arith, at-the-end 256 0 bytes)
+
+pub reduced : Reduced
+reduced = record {
+  at-the-end = at-the-end;
+  by-128 = by-128;
+  in-a-byte = in-a-byte;
+  by-256 = by-256;
+}
+
 pub inverse : Inverse
 inverse = record {
   packed-again = pack-nibbles;
@@ -276,15 +304,14 @@ packing-done ns out even narrow h = rw (ne-eqb (length ns % 2) 1 even, narrow, l
 
 -- What a loop over the bytes needs.
 
--- The total from i on is the byte at i and the total behind it.
-pub total-drop : (s : List ℕ) (i : ℕ) → i < length s → total (drop i s) ≡ getD s i 0 + total (drop (i + 1) s)
-unfolding total
-total-drop s i h = rw (drop-cons s i 0 h) (simp add-one)
+-- The sum from i on takes in the byte at i, and behind the last byte it is made.
+pub reducing-drop : (m t : ℕ) (s : List ℕ) (i : ℕ) → i < length s → reducing m t (drop i s) ≡ reducing m ((t + getD s i 0) % m) (drop (i + 1) s)
+unfolding reducing
+reducing-drop m t s i h = rw (drop-cons s i 0 h) (simp add-one)
 
--- Behind the last byte there is nothing to add.
-pub total-end : (s : List ℕ) (i : ℕ) → length s ≤ i → total (drop i s) ≡ 0
-unfolding total
-total-end s i h = rw (drop-of-length-le s h)
+pub reducing-end : (m t : ℕ) (s : List ℕ) (i : ℕ) → length s ≤ i → reducing m t (drop i s) ≡ t
+unfolding reducing
+reducing-end m t s i h = rw (drop-of-length-le s h)
 
 -- One byte more gives two nibbles more.
 pub nibbles-take : (s : List ℕ) (i : ℕ) → i < length s

@@ -4,6 +4,7 @@ use answers::OUT_OF_RANGE;
 use answers::Outcome;
 use answers::WRONG_LENGTH;
 use fields::BUSES;
+use fields::BytePlace;
 use fields::DESTINATION_AT;
 use fields::NAME;
 use fields::NAME_SIZE;
@@ -104,11 +105,9 @@ fn first_out(p: &[u8]) -> Failed
     if all_in_range(p) {
         return Failed::Nowhere;
     }
-    let least = LEAST;
-    let width = WIDTH;
     let mut k: usize = 0;
     while k < SIZE {
-        if width[k] < std::num::wrapping_sub_u8(p[k], least[k]) {
+        if !fields::in_range(BytePlace(k as u8), p[k]) {
             return Failed::At(k);
         }
         k += 1;

@@ -4,8 +4,9 @@ use mathlib.Core.Option.{some}
 use Prim.Native.Nat.{ℕ, _+_, _*_, _/_, _%_, _^_}
 use native.Mathlib.Omega.{arith}
 use borrow.Author.Needs.{needs}
+use Rattle.fields.specs.Fields.{placeOf}
 use Rattle.fields.specs.code.Columns.{foundPlace, placeOrNone}
-use Rattle.fields.proofs.Places.{numbered-none, numbered-some}
+use Rattle.fields.proofs.Places.{numbered-none, numbered-some, no-place-255}
 use Rattle.fields.proofs.place_of.Statement.{statement}
 use Rattle.fields.proofs.place_of.Tie as tie
 
@@ -18,12 +19,12 @@ its-place p =
     p .eight-places .ensures (number p % 8) (omega arith) ∙ ap placeOrNone same
 
 returns : tie.Need-returns
-returns c = let p = c .before in sym (ap foundPlace (numbered-none (number p) (sym (its-place p) ∙ c .if1 .taken)))
+returns c = let p = c .before in sym (ap foundPlace (numbered-none (placeOf (number p)) (no-place-255 (number p)) (sym (its-place p) ∙ c .if1 .taken)))
 
 returns-2 : tie.Need-returns-2
 returns-2 c =
     let p = c .before in
-    let found = numbered-some (number p) (λ e. c .if1 .left (its-place p ∙ e)) in
+    let found = numbered-some (placeOf (number p)) (λ e. c .if1 .left (its-place p ∙ e)) in
     sym (ap foundPlace (found ∙ ap some (sym (its-place p))))
 
 pub place-of-spec : {M : Type 1} → statement M

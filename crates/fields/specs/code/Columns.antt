@@ -4,7 +4,7 @@ use mathlib.Core.Option.{Option, none, some}
 use Prim.Native.Nat.{ℕ, _+_, _-_, _*_, _/_, _%_, _^_, _<_}
 use lib.ListN.{take, drop}
 use Rattle.ranges.specs.Ranges.{Table}
-use Rattle.fields.specs.Fields.{fields, leastAt, greatestAt, placeOf}
+use Rattle.fields.specs.Fields.{fields, leastAt, greatestAt, placeOf, parameterOf}
 use Rattle.fields.specs.declared.FoundPlace.{FoundPlace}
 use Rattle.fields.specs.declared.FoundPlace.the-variants.{At, Nothing as no-place}
 use Rattle.fields.specs.declared.FoundParameter.{FoundParameter}
@@ -35,9 +35,12 @@ abbrev pub orNone : Option ℕ → ℕ
 orNone none = 255
 orNone (some n) = n
 
--- The place of a parameter as a byte.
+-- The place of a parameter, and the parameter of a place, as a byte.
 abbrev pub placeOrNone : ℕ → ℕ
 placeOrNone n = orNone (placeOf n)
+
+abbrev pub parameterOrNone : ℕ → ℕ
+parameterOrNone k = orNone (parameterOf k)
 
 -- The number r holds n others of w bits each, the first lowest: those that f gives from k on.
 abbrev pub InWord : ℕ → (ℕ → ℕ) → ℕ → ℕ → ℕ → Type 0

@@ -35,3 +35,12 @@ pub record Kept (w old new : List ℕ) (n : ℕ) : Type 0 where
 -- Where the first F0H at place p or later stands; the input's length, or p past it, where there is none.
 unfoldable pub startAt : List ℕ → ℕ → ℕ
 startAt s p = p + ahead (drop p s)
+
+-- How many bytes F8H..FFH stand before the first that is none.
+unfoldable pub realTimeAhead : List ℕ → ℕ
+realTimeAhead [] = 0
+realTimeAhead (b ∷ s) = cond (isRealTime (byteKind b)) (suc (realTimeAhead s)) 0
+
+-- Where the first byte at place p or later stands that is not real time; the number of bytes, or p past it, where there is none.
+unfoldable pub pastRealTime : List ℕ → ℕ → ℕ
+pastRealTime s p = p + realTimeAhead (drop p s)
