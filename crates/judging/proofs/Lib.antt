@@ -1,2 +1,5 @@
 pub mod Data
+pub mod Gathering
+pub mod Places
+pub mod Records
 pub mod Verdicts

@@ -2,11 +2,11 @@
 -- length is right.
 use mathlib.Core.Path.{_≡_, refl, sym, ap, _∙_}
 use mathlib.Core.Bool.{false}
-use mathlib.Core.List.{List}
-use Prim.Native.Nat.{ℕ, _+_, _*_}
+use mathlib.Core.List.{List, [], _∷_}
+use Prim.Native.Nat.{ℕ, _+_, _*_, _≤_}
 use native.Mathlib.Omega.{arith}
 use lib.Dec.{T}
-use lib.ListN.{length, drop, getD}
+use lib.ListN.{length, take, drop, getD}
 use borrow.Author.Tests.{eq-eqb, ne-eqb}
 use Rattle.answers.specs.declared.Outcome.{Outcome}
 use Rattle.answers.specs.Table.{Row, refused, first, outcome, four}
@@ -20,7 +20,8 @@ use Rattle.messages.specs.declared.kinds.Kind.the-variants.{Dump as ofDump, Sho
 use Rattle.messages.specs.declared.kinds.Short.{Short}
 use Rattle.messages.specs.Kinds.{kindOf, opcodeOf, sizeOf, countOf, lengthOf, isUnknown}
 use Rattle.messages.specs.Judge.{byteAt, dumpRows, operandRows, numberIn, kindRows, recordOf, judge}
-use Rattle.judging.specs.code.Judged.{kindVerdict, judged, judgedAs, refusedBy, sentIn, sumIn}
+use Rattle.judging.specs.code.Content.{sentIn, sumIn}
+use Rattle.judging.specs.code.Judged.{kindVerdict, judged, judgedAs, refusedBy, sentRowsIn}
 use Rattle.messages.specs.code.Sizes.{sized}
 use Rattle.messages.proofs.Filed.{is-sized}
 use Rattle.messages.proofs.DumpLaws.{dump-refusals}
@@ -73,6 +74,15 @@ of-short k s c = record {
   refusals = operand-refusals (k .operands) (drop 3 c);
   accepts = λ l. rw (framed-bytes (countOf (k .operands)) c (omega (arith, is-sized (ofShort k) s .0)));
 }
+
+-- Of four bytes, zero behind the last, the first so many are the bytes themselves.
+pub four-front : (l : List ℕ) → length l ≤ 4 → take (length l) (four l) ≡ l
+four-front [] h = refl
+four-front (x ∷ []) h = refl
+four-front (x ∷ y ∷ []) h = refl
+four-front (x ∷ y ∷ z ∷ []) h = refl
+four-front (x ∷ y ∷ z ∷ w ∷ []) h = refl
+four-front (x ∷ y ∷ z ∷ w ∷ v ∷ l) h = absurd (omega arith)
 
 -- The rows 4 and 5, and what is left to the kind.
 module _ (m : List ℕ) where

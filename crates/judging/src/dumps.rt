@@ -1,11 +1,14 @@
 // A dump by its description.
 use crate::Judged;
 use crate::accepted;
+use crate::content::byte_at;
+use crate::content::pack_data;
 use crate::refused;
 use crate::refused_by;
 use answers::DONE;
 use answers::NOT_ALLOWED;
 use answers::Outcome;
+use answers::WIDE_DATA;
 use answers::WRONG_LENGTH;
 use answers::WRONG_SUM;
 use messages::kinds::Behind;
@@ -14,9 +17,10 @@ use messages::kinds::MASTER;
 use messages::kinds::PATCH;
 use messages::kinds::Packed;
 use messages::kinds::size_of;
+use ranges::Failed;
 ghost use mathlib.Core.Path.{_≡_};
 ghost use mathlib.Core.Bool.{true};
-ghost use Prim.Native.Nat.{_+_, _*_, _≤_};
+ghost use Prim.Native.Nat.{_+_, _*_, _≤_, _<_};
 ghost use lib.Dec.{T};
 ghost use lib.ListN.{length, getD};
 ghost use Rattle.answers.specs.Effect.{tested};
@@ -26,23 +30,21 @@ ghost use Rattle.messages.specs.declared.kinds.Kind.the-variants.{Dump as ofDum
 ghost use Rattle.messages.specs.declared.kinds.Packed.the-variants.{Patch as aPatch};
 ghost use Rattle.messages.specs.Kinds.{sizeOf, master};
 ghost use Rattle.messages.specs.code.Sizes.{sized, lentRows};
-ghost use Rattle.messages.specs.Judge.{sentRows, misnumbered, numberIn};
-ghost use Rattle.judging.specs.code.Judged.{kindVerdict, judged, Checked, sentIn, sumIn};
-
-// Where the data bytes of a patch dump end in its content, and its sum stands.
-const PATCH_SENT: usize = 4 + 2 * PATCH;
+ghost use Rattle.messages.specs.Judge.{misnumbered, numberIn};
+ghost use Rattle.judging.specs.code.Content.{contentBy};
+ghost use Rattle.judging.specs.code.Judged.{kindVerdict, judged, Checked, sentRowsIn};
 
 // The data bytes of a dump and the sum behind them: 9, 10. The packed bytes are left in `packed`, which fits them.
 // The callers below have seen the length.
-fn check_data(sent: &[u8], sum: u8, packed: &mut [u8]) -> Outcome
-    requires { ⌜ length (now sent) ≡ 2 * length (now packed) ⌝ }
-    ensures { λ r. ⌜ Checked (now (sent .entry)) sum (now (packed .exit)) r ⌝ }
+fn check_data(body: &[u8], count: usize, packed: &mut [u8]) -> Outcome
+    requires { ⌜ (count ≡ length (contentBy count (now body))) × (4 + 2 * length (now packed) < count) ⌝ }
+    ensures { λ r. ⌜ Checked (length (now (packed .entry))) (contentBy count (now (body .entry))) (now (packed .exit)) r ⌝ }
 {
-    let p = nibbles::pack_into(sent, packed);
-    if p.answer != DONE {
-        return p;
+    let wide = pack_data(body, count, packed);
+    if let Failed::At(i) = wide {
+        return answers::refused(WIDE_DATA, i);
     }
-    if nibbles::checksum(packed) != sum {
+    if nibbles::checksum(packed) != byte_at(body, count, 4 + 2 * packed.len()) {
         return answers::refused(WRONG_SUM, 0);
     }
     answers::done(0)
@@ -59,12 +61,12 @@ pub fn test_packed(packed: Packed, bytes: &[u8]) -> Outcome
 }
 
 // The data of a patch, and its fields: 9 to 12, by numbers that the compiler sees. The caller below has seen the length.
-fn check_patch(sent: &[u8], sum: u8) -> Outcome
-    requires { ⌜ length (now sent) ≡ 2 * size ⌝ }
-    ensures { λ r. ⌜ r ≡ tested (sentRows aPatch (now (sent .entry)) sum) ⌝ }
+fn check_patch(body: &[u8], count: usize) -> Outcome
+    requires { ⌜ (count ≡ length (contentBy count (now body))) × (count ≡ 5 + 2 * size) ⌝ }
+    ensures { λ r. ⌜ r ≡ tested (sentRowsIn aPatch (contentBy count (now (body .entry)))) ⌝ }
 {
     let mut packed = [0u8; PATCH];
-    let data = check_data(sent, sum, &mut packed);
+    let data = check_data(body, count, &mut packed);
     if data.answer != DONE {
         return data;
     }
@@ -72,11 +74,11 @@ fn check_patch(sent: &[u8], sum: u8) -> Outcome
 }
 
 // The data of any packed bytes, and their own tests, in a room that fits them. The caller below has seen the length.
-fn check_room(packed: Packed, sent: &[u8], sum: u8, room: &mut [u8]) -> Outcome
-    requires { ⌜ (length (now sent) ≡ 2 * length (now room)) × (length (now room) ≡ sizeOf packed) ⌝ }
-    ensures { λ r. ⌜ r ≡ tested (sentRows packed (now (sent .entry)) sum) ⌝ }
+fn check_room(packed: Packed, body: &[u8], count: usize, room: &mut [u8]) -> Outcome
+    requires { ⌜ ((count ≡ length (contentBy count (now body))) × (count ≡ 5 + 2 * sizeOf packed)) × (length (now room) ≡ sizeOf packed) ⌝ }
+    ensures { λ r. ⌜ r ≡ tested (sentRowsIn packed (contentBy count (now (body .entry)))) ⌝ }
 {
-    let data = check_data(sent, sum, room);
+    let data = check_data(body, count, room);
     if data.answer != DONE {
         return data;
     }
@@ -94,17 +96,15 @@ fn is_patch(packed: Packed) -> bool
 }
 
 // The data and the packed bytes of a dump: 9 to 12. The caller below has seen the length.
-fn check_packed(packed: Packed, content: &[u8]) -> Outcome
-    requires { ⌜ (length (now content) ≡ 5 + 2 * sizeOf packed) × (sizeOf packed ≤ master) ⌝ }
-    ensures { λ r. ⌜ r ≡ tested (sentRows packed (sentIn (sizeOf packed) (now (content .entry))) (sumIn (sizeOf packed) (now (content .entry)))) ⌝ }
+fn check_packed(packed: Packed, body: &[u8], count: usize) -> Outcome
+    requires { ⌜ ((count ≡ length (contentBy count (now body))) × (count ≡ 5 + 2 * sizeOf packed)) × (sizeOf packed ≤ master) ⌝ }
+    ensures { λ r. ⌜ r ≡ tested (sentRowsIn packed (contentBy count (now (body .entry)))) ⌝ }
 {
     if is_patch(packed) {
-        return check_patch(&content[4..PATCH_SENT], content[PATCH_SENT]);
+        return check_patch(body, count);
     }
-    let count = size_of(packed);
-    let end = 4 + 2 * count;
     let mut room = [0u8; MASTER];
-    check_room(packed, &content[4..end], content[end], &mut room[..count])
+    check_room(packed, body, count, &mut room[..size_of(packed)])
 }
 
 // The byte behind a dump's opcode does not pass.
@@ -128,20 +128,20 @@ fn number_of(behind: Behind, byte: u8) -> u8
 }
 
 // A dump: 7, then 8 to 12. The caller has the kind from its opcode.
-pub(crate) fn judge_dump(kind: Dump, content: &[u8]) -> Judged
-    requires { ⌜ T (sized (ofDump kind)) ⌝ }
-    ensures { λ r. ⌜ r ≡ judged (kindVerdict (ofDump kind) (framed (now (content .entry)))) ⌝ }
+pub(crate) fn judge_dump(kind: Dump, body: &[u8], count: usize) -> Judged
+    requires { ⌜ T (sized (ofDump kind)) × (count ≡ length (contentBy count (now body))) ⌝ }
+    ensures { λ r. ⌜ r ≡ judged (kindVerdict (ofDump kind) (framed (contentBy count (now (body .entry))))) ⌝ }
 {
-    if content.len() + 2 != kind.length {
+    if count + 2 != kind.length {
         return refused_by(WRONG_LENGTH);
     }
     let behind = kind.behind;
-    let number = content[3];
+    let number = byte_at(body, count, 3);
     if wrong_number(behind, number) {
         return refused_by(NOT_ALLOWED);
     }
     let packed = kind.packed;
-    let tested = check_packed(packed, content);
+    let tested = check_packed(packed, body, count);
     if tested.answer != DONE {
         return refused(tested);
     }

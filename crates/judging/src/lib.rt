@@ -1,9 +1,15 @@
-// What a complete message comes to, from its content: what stands between F0H and F7H, real time dropped.
+// What a complete message comes to.
+pub mod content;
 pub mod dumps;
 pub mod shorts;
 
+use crate::content::byte_at;
+use crate::content::count_content;
+use crate::content::pack_data;
 use crate::dumps::judge_dump;
 use crate::shorts::judge_short;
+use answers::DONE;
+use answers::NO_ROOM;
 use answers::OTHER_DEVICE;
 use answers::OTHER_MAKER;
 use answers::OTHER_OPCODE;
@@ -12,12 +18,16 @@ use messages::kinds::DEVICE;
 use messages::kinds::Kind;
 use messages::kinds::MAKER;
 use messages::kinds::kind_of;
+use messages::kinds::packed_size;
 ghost use mathlib.Core.Path.{_≡_};
+ghost use lib.ListN.{length};
+ghost use Rattle.answers.specs.Effect.{Gives};
 ghost use Rattle.answers.specs.Table.{outcome};
 ghost use Rattle.streams.specs.Bytes.{framed};
 ghost use Rattle.messages.specs.Kinds.{kindOf};
 ghost use Rattle.messages.specs.Judge.{judge};
-ghost use Rattle.judging.specs.code.Judged.{kindVerdict, judged, judgedAs, refusedBy};
+ghost use Rattle.judging.specs.code.Content.{contentOf, contentBy};
+ghost use Rattle.judging.specs.code.Judged.{kindVerdict, judged, judgedAs, refusedBy, recordedAs};
 
 // An outcome, and the bytes that come with it: a patch number, or an edit's two or four; zero where there are none.
 pub struct Judged {
@@ -52,36 +62,65 @@ pub(crate) fn accepted(opcode: u8, bytes: [u8; 4]) -> Judged
     }
 }
 
-// The kind by its opcode, 6 for any other.
-fn judge_kind(opcode: u8, content: &[u8]) -> Judged
-    ensures { λ r. ⌜ r ≡ judged (kindVerdict (kindOf opcode) (framed (now (content .entry)))) ⌝ }
+// The kind by its opcode, 6 for any other. The caller below has counted the content.
+fn judge_kind(opcode: u8, body: &[u8], count: usize) -> Judged
+    requires { ⌜ count ≡ length (contentBy count (now body)) ⌝ }
+    ensures { λ r. ⌜ r ≡ judged (kindVerdict (kindOf opcode) (framed (contentBy count (now (body .entry))))) ⌝ }
 {
     let kind = kind_of(opcode);
     match kind {
-        Kind::Dump(dump) => judge_dump(dump, content),
-        Kind::Short(short) => judge_short(short, content),
+        Kind::Dump(dump) => judge_dump(dump, body, count),
+        Kind::Short(short) => judge_short(short, body, count),
         Kind::Unknown => refused_by(OTHER_OPCODE),
     }
 }
 
-// What a complete message comes to, by document 01's table from 4 on. The content is already without its real time.
-pub fn judge_content(content: &[u8]) -> Judged
-    ensures { λ r. ⌜ r ≡ judged (judge (framed (now (content .entry)))) ⌝ }
+// What a complete message comes to, by document 01's table from 4 on. The callers below have counted its content.
+fn judge_content(body: &[u8], count: usize) -> Judged
+    requires { ⌜ count ≡ length (contentBy count (now body)) ⌝ }
+    ensures { λ r. ⌜ r ≡ judged (judge (framed (contentBy count (now (body .entry))))) ⌝ }
 {
-    if content.len() < 1 {
+    if count < 1 {
         return refused_by(OTHER_MAKER);
     }
-    if content[0] != MAKER {
+    if byte_at(body, count, 0) != MAKER {
         return refused_by(OTHER_MAKER);
     }
-    if content.len() < 2 {
+    if count < 2 {
         return refused_by(OTHER_DEVICE);
     }
-    if content[1] != DEVICE {
+    if byte_at(body, count, 1) != DEVICE {
         return refused_by(OTHER_DEVICE);
     }
-    if content.len() < 3 {
+    if count < 3 {
         return refused_by(OTHER_OPCODE);
     }
-    judge_kind(content[2], content)
+    judge_kind(byte_at(body, count, 2), body, count)
+}
+
+// What a complete message comes to, from what stands between F0H and F7H and how many real-time bytes were heard there: where none was,
+// from all of it, else from what is left without them.
+pub fn judge_body(body: &[u8], noise: usize) -> Judged
+    ensures { λ r. ⌜ r ≡ judged (judge (framed (contentOf noise (now (body .entry))))) ⌝ }
+{
+    judge_content(body, count_content(body, noise))
+}
+
+// The same with its packed bytes at the start of a lent buffer: as judged, then 13. Refused, the buffer keeps every byte.
+pub fn record_body(body: &[u8], noise: usize, buffer: &mut [u8]) -> Judged
+    ensures { λ r. ⌜ Gives (recordedAs (judge (framed (contentOf noise (now (body .entry))))) (now (buffer .entry))) r (now (buffer .exit)) ⌝ }
+{
+    let count = count_content(body, noise);
+    let j = judge_content(body, count);
+    if j.outcome.answer != DONE {
+        return j;
+    }
+    let size = packed_size(kind_of(byte_at(body, count, 2)));
+    if buffer.len() < size {
+        return refused_by(NO_ROOM);
+    }
+    if 0 < size {
+        pack_data(body, count, &mut buffer[..size]);
+    }
+    j
 }

@@ -1,6 +1,7 @@
 // A short message by its description: its bytes behind the opcode, and their tests.
 use crate::Judged;
 use crate::accepted;
+use crate::content::byte_at;
 use crate::refused;
 use crate::refused_by;
 use answers::DONE;
@@ -12,13 +13,14 @@ use messages::kinds::Short;
 use messages::kinds::count_of;
 ghost use mathlib.Core.Path.{_≡_};
 ghost use lib.Dec.{T};
-ghost use lib.ListN.{getD};
+ghost use lib.ListN.{length, drop, getD};
 ghost use Rattle.answers.specs.Effect.{tested};
 ghost use Rattle.answers.specs.Table.{four};
 ghost use Rattle.streams.specs.Bytes.{framed};
 ghost use Rattle.messages.specs.declared.kinds.Kind.the-variants.{Short as ofShort};
 ghost use Rattle.messages.specs.code.Sizes.{sized};
 ghost use Rattle.messages.specs.Judge.{lentOperandRows};
+ghost use Rattle.judging.specs.code.Content.{contentBy};
 ghost use Rattle.judging.specs.code.Judged.{kindVerdict, judged};
 
 // The tests of a short message's bytes: 7 for another count of them, then those that applying an edit makes too.
@@ -34,41 +36,43 @@ pub fn test_operands(operands: Operands, bytes: &[u8]) -> Outcome
     }
 }
 
-// A byte, zero behind the last.
-fn byte_or_zero(bytes: &[u8], i: usize) -> u8
-    ensures { λ r. ⌜ r ≡ getD (now (bytes .entry)) i 0 ⌝ }
+// A byte of the content, zero behind the last. The callers below have counted it.
+fn byte_or_zero(body: &[u8], count: usize, i: usize) -> u8
+    requires { ⌜ count ≡ length (contentBy count (now body)) ⌝ }
+    ensures { λ r. ⌜ r ≡ getD (contentBy count (now (body .entry))) i 0 ⌝ }
 {
-    if i < bytes.len() {
-        return bytes[i];
+    if i < count {
+        return byte_at(body, count, i);
     }
     0
 }
 
-// The first four bytes, zero behind the last.
-fn first_four(bytes: &[u8]) -> [u8; 4]
-    ensures { λ r. ⌜ r ≡ four (now (bytes .entry)) ⌝ }
+// The first four bytes behind the opcode, zero behind the last.
+fn first_four(body: &[u8], count: usize) -> [u8; 4]
+    requires { ⌜ count ≡ length (contentBy count (now body)) ⌝ }
+    ensures { λ r. ⌜ r ≡ four (drop 3 (contentBy count (now (body .entry)))) ⌝ }
 {
     [
-        byte_or_zero(bytes, 0),
-        byte_or_zero(bytes, 1),
-        byte_or_zero(bytes, 2),
-        byte_or_zero(bytes, 3),
+        byte_or_zero(body, count, 3),
+        byte_or_zero(body, count, 4),
+        byte_or_zero(body, count, 5),
+        byte_or_zero(body, count, 6),
     ]
 }
 
 // A short message: 7, then the tests of its bytes. The caller has the kind from its opcode.
-pub(crate) fn judge_short(kind: Short, content: &[u8]) -> Judged
-    requires { ⌜ T (sized (ofShort kind)) ⌝ }
-    ensures { λ r. ⌜ r ≡ judged (kindVerdict (ofShort kind) (framed (now (content .entry)))) ⌝ }
+pub(crate) fn judge_short(kind: Short, body: &[u8], count: usize) -> Judged
+    requires { ⌜ T (sized (ofShort kind)) × (count ≡ length (contentBy count (now body))) ⌝ }
+    ensures { λ r. ⌜ r ≡ judged (kindVerdict (ofShort kind) (framed (contentBy count (now (body .entry))))) ⌝ }
 {
-    if content.len() + 2 != kind.length {
+    if count + 2 != kind.length {
         return refused_by(WRONG_LENGTH);
     }
-    let bytes = &content[3..];
+    let bytes = first_four(body, count);
     let operands = kind.operands;
-    let tested = test_operands(operands, bytes);
+    let tested = test_operands(operands, &bytes[..count - 3]);
     if tested.answer != DONE {
         return refused(tested);
     }
-    accepted(kind.opcode, first_four(bytes))
+    accepted(kind.opcode, bytes)
 }

@@ -1,4 +1,3 @@
 pub mod Spans
-pub mod Records
 pub mod Rooms
 pub mod Resume

@@ -1,25 +1,17 @@
 // Reading a record into a lent buffer.
-use crate::walking::ROOM;
 use crate::walking::Report;
-use crate::walking::keep;
 use answers::DONE;
 use answers::NO_MESSAGE;
-use answers::NO_ROOM;
 use answers::Outcome;
 use frames::Span;
-use judging::judge_content;
-use messages::kinds::kind_of;
-use messages::kinds::packed_size;
 ghost use mathlib.Core.Path.{_≡_};
 ghost use mathlib.Core.List.{[]};
 ghost use Prim.Native.Nat.{_+_, _^_, _<_};
 ghost use lib.ListN.{length};
 ghost use Rattle.answers.specs.Effect.{Gives};
 ghost use Rattle.answers.specs.Table.{four};
-ghost use Rattle.streams.specs.Bytes.{framed, withoutRealTime};
-ghost use Rattle.frames.specs.code.Extent.{realTimeIn, spanOf};
-ghost use Rattle.messages.specs.Judge.{judge};
-ghost use Rattle.reading.specs.code.Told.{readingAs, recorded, readMessage, reads};
+ghost use Rattle.frames.specs.code.Extent.{spanOf};
+ghost use Rattle.reading.specs.code.Told.{readingAs, readMessage, reads};
 
 // A report, and the bytes that come with its answer: a patch number, or an edit's two or four, as received; zero where the message
 // has none and with every answer but 0.
@@ -43,46 +35,6 @@ fn bare(start: usize, end: usize, outcome: Outcome) -> Reading
     }
 }
 
-// The message from `start` to `end` with this content, its packed bytes into the buffer: as judged, then 13.
-fn read_content(content: &[u8], start: usize, end: usize, buffer: &mut [u8]) -> Reading
-    ensures { λ r. ⌜ Gives (recorded start end (judge (framed (now (content .entry)))) (now (buffer .entry))) r (now (buffer .exit)) ⌝ }
-{
-    let j = judge_content(content);
-    let outcome = j.outcome;
-    let bytes = j.bytes;
-    if outcome.answer != DONE {
-        return bare(start, end, outcome);
-    }
-    let size = packed_size(kind_of(content[2]));
-    if buffer.len() < size {
-        return bare(start, end, answers::refused(NO_ROOM, 0));
-    }
-    if 0 < size {
-        nibbles::pack_into(&content[4..4 + 2 * size], buffer);
-    }
-    Reading {
-        report: Report {
-            start,
-            end,
-            outcome,
-        },
-        bytes,
-    }
-}
-
-// The same from what stands between F0H and F7H. The caller has counted the real time in it.
-fn read_body(body: &[u8], noise: usize, start: usize, end: usize, buffer: &mut [u8]) -> Reading
-    requires { ⌜ noise ≡ realTimeIn (now body) ⌝ }
-    ensures { λ r. ⌜ Gives (recorded start end (judge (framed (withoutRealTime (now (body .entry))))) (now (buffer .entry))) r (now (buffer .exit)) ⌝ }
-{
-    if noise == 0 {
-        return read_content(body, start, end, buffer);
-    }
-    let mut room = [0u8; ROOM];
-    let n = keep(body, &mut room);
-    read_content(&room[..n], start, end, buffer)
-}
-
 // The record of the message whose F0H stands at `start`, before `rest`. The caller has found its end.
 fn read_at(rest: &[u8], start: usize, span: Span, buffer: &mut [u8]) -> Reading
     requires { ⌜ (start + 1 + length (now rest) < 2 ^ 64) × (span ≡ spanOf (now rest)) ⌝ }
@@ -94,7 +46,17 @@ fn read_at(rest: &[u8], start: usize, span: Span, buffer: &mut [u8]) -> Reading
     if ending != DONE {
         return bare(start, end, answers::refused(ending, 0));
     }
-    read_body(&rest[..n], span.noise, start, end + 1, buffer)
+    let j = judging::record_body(&rest[..n], span.noise, buffer);
+    let outcome = j.outcome;
+    let bytes = j.bytes;
+    Reading {
+        report: Report {
+            start,
+            end: end + 1,
+            outcome,
+        },
+        bytes,
+    }
 }
 
 // Reading a record: as the walk, then 13. A dump's packed bytes stand at the buffer's start; every other byte of it is kept,

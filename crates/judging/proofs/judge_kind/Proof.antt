@@ -12,12 +12,14 @@ use Rattle.judging.proofs.judge_kind.Tie as tie
 judge-dump-requires : tie.Need-judge-dump-requires
 judge-dump-requires c κs =
     let asked = c .before .before .before in
-    subst (λ (k : Kind). T (sized k)) (sym (asked .kind-of .ensures) ∙ c .before .kind .given .1) (kind-sized (asked .before .before .args .opcode))
+    let start = asked .before .before in
+    (subst (λ (k : Kind). T (sized k)) (sym (asked .kind-of .ensures) ∙ c .before .kind .given .1) (kind-sized (start .args .opcode)), start .pre)
 
 judge-short-requires : tie.Need-judge-short-requires
 judge-short-requires c κs =
     let asked = c .before .before .before in
-    subst (λ (k : Kind). T (sized k)) (sym (asked .kind-of .ensures) ∙ c .before .kind2 .given .1) (kind-sized (asked .before .before .args .opcode))
+    let start = asked .before .before in
+    (subst (λ (k : Kind). T (sized k)) (sym (asked .kind-of .ensures) ∙ c .before .kind2 .given .1) (kind-sized (start .args .opcode)), start .pre)
 
 returns : tie.Need-returns
 returns c = rw (← (c .before .before .before .before .kind-of .ensures), c .before .before .kind .given .1) (c .judge-dump .ensures)

@@ -1,15 +1,18 @@
 -- A verdict as the code answers it, and what the test of a dump's data leaves.
 use mathlib.Core.Path.{_≡_}
 use mathlib.Core.List.{List, []}
-use Prim.Native.Nat.{ℕ, _+_, _*_}
-use lib.ListN.{take, drop, getD}
+use Prim.Native.Nat.{ℕ}
 use Rattle.answers.specs.declared.Outcome.{Outcome}
-use Rattle.answers.specs.Table.{Verdict, done, refused, first, outcome, outcomeOf, four}
-use Rattle.answers.specs.Effect.{tested}
+use Rattle.answers.specs.Table.{Row, Verdict, done, refused, first, outcome, outcomeOf, four}
+use Rattle.answers.specs.Effect.{Effect, tested, toldAs}
+use Rattle.streams.specs.Stream.{Reading, readInto}
 use Rattle.nibbles.specs.Nibbles.{pack}
 use Rattle.judging.specs.declared.Judged.{Judged}
+use Rattle.judging.specs.code.Content.{sentIn, sumIn}
 use Rattle.messages.specs.declared.kinds.Kind.{Kind}
-use Rattle.messages.specs.Judge.{dataRows, kindTable, recordOf}
+use Rattle.messages.specs.declared.kinds.Packed.{Packed}
+use Rattle.messages.specs.Kinds.{sizeOf}
+use Rattle.messages.specs.Judge.{dataRows, sentRows, kindTable, recordOf}
 
 abbrev pub bytesIn : Verdict → List ℕ
 bytesIn (done op b p) = b
@@ -25,18 +28,23 @@ judgedAs opcode b = record { outcome = outcome 0 opcode; bytes = b }
 abbrev pub refusedBy : Outcome → Judged
 refusedBy o = judged (refused o)
 
--- What the test of a dump's data gave: its outcome, and when done the packed bytes.
-pub record Checked (d : List ℕ) (s : ℕ) (after : List ℕ) (r : Outcome) : Type 0 where
-  pub outcome : r ≡ tested (dataRows d s)
-  pub packed : r .answer ≡ 0 → after ≡ pack d
+-- What the test of a dump's data gave, from the content: its outcome, and when done the packed bytes.
+pub record Checked (size : ℕ) (c after : List ℕ) (r : Outcome) : Type 0 where
+  pub outcome : r ≡ tested (dataRows (sentIn size c) (sumIn size c))
+  pub packed : r .answer ≡ 0 → after ≡ pack (sentIn size c)
 
--- A dump's data bytes and its sum, from the content.
-abbrev pub sentIn : ℕ → List ℕ → List ℕ
-sentIn size c = take (2 * size) (drop 4 c)
-
-abbrev pub sumIn : ℕ → List ℕ → ℕ
-sumIn size c = getD c (4 + 2 * size) 0
+-- What is tested of a dump behind its number, from the content.
+abbrev pub sentRowsIn : Packed → List ℕ → List Row
+sentRowsIn q c = sentRows q (sentIn (sizeOf q) c) (sumIn (sizeOf q) c)
 
 -- What a message comes to whose maker and device have passed, by its kind.
 unfoldable pub kindVerdict : Kind → List ℕ → Verdict
 kindVerdict k m = first (kindTable k m) (recordOf k m)
+
+-- A reading without its places.
+abbrev pub told : Reading → Judged
+told r = record { outcome = r .outcome; bytes = four (r .bytes) }
+
+-- A message that comes to v, its packed bytes at the start of a lent buffer: as reading a record, but for its places.
+abbrev pub recordedAs : Verdict → List ℕ → Effect Judged
+recordedAs v lent = toldAs told (readInto 0 0 v lent)

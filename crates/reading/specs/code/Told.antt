@@ -1,9 +1,8 @@
 -- A report and a reading as the code tells them: plain numbers, and the four bytes that come with an answer.
-use mathlib.Core.Path.{_≡_}
 use mathlib.Core.List.{List}
 use mathlib.Core.Option.{Option, none, some}
-use Prim.Native.Nat.{ℕ, _≤_}
-use lib.ListN.{length, take}
+use Prim.Native.Nat.{ℕ}
+use lib.ListN.{length}
 use Rattle.answers.specs.declared.Outcome.{Outcome}
 use Rattle.answers.specs.Table.{Verdict, outcome, outcomeOf, four}
 use Rattle.answers.specs.Effect.{Effect, toldAs}
@@ -44,8 +43,3 @@ readMessage f t lent = toldAs readingOf (stream.readReport judge 0 (some (stream
 -- Reading a record.
 abbrev pub reads : List ℕ → ℕ → List ℕ → Effect Reading
 reads s place lent = toldAs readingOf (stream.read judge s place lent)
-
--- The first n bytes of a room are those of w, as many as the room takes.
-pub record Front (w old new : List ℕ) (n : ℕ) : Type 0 where
-  pub within : n ≤ length new
-  pub bytes : take n new ≡ take (length old) w

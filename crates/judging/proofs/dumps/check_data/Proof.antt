@@ -1,34 +1,45 @@
 -- `check_data` packs, then compares the sum: each return is a case of the rows of a dump's data.
-use mathlib.Core.Path.{refl}
+use mathlib.Core.Path.{_≡_, sym, _∙_}
+use native.Mathlib.Omega.{arith}
+use lib.ListN.{length}
 use borrow.Author.Needs.{needs}
-use Rattle.judging.proofs.Data.{check-refused, check-sum, check-done}
+use Rattle.judging.specs.code.Content.{contentBy, sumIn}
+use Rattle.judging.proofs.Data.{check-wide, check-sum, check-done}
 use Rattle.judging.proofs.dumps.check_data.Statement.{statement}
 use Rattle.judging.proofs.dumps.check_data.Tie as tie
 
 returns : tie.Need-returns
 returns c =
-    let at = c .before .before .before .before in
-    let start = at .before .before .before .before in
-    check-refused (start .args .sent .now) (start .args .packed .now) (at .pack-into .last .1 .0) (at .pack-into .result) (start .pre) (at .pack-into .ensures)
-    (start .args .sum) (at .pack-into .result) (c .if1 .taken) refl
+    let at = c .before .before .before .before .before .before in
+    let a = at .before .before .before .before .args in
+    let told = c .before .before in
+    check-wide (length (a .packed .now)) (contentBy (a .count) (a .body .now)) (at .pack-data .last .1 .1 .0) (at .pack-data .result) (at .pack-data .ensures)
+    (c .refused .result) (told .wide .given .0 .0) (told .wide .given .1) (c .refused .ensures)
+
+-- The byte that the sum is compared with is the one behind the data.
+sum-read : (read : tie.After-byte-at) → let a = read .before .before .before .before .before .before .before .before .before .before .before .args in
+    read .byte-at .result ≡ sumIn (length (a .packed .now)) (contentBy (a .count) (a .body .now))
+sum-read read =
+    let at = read .before .before .before .before .before .before .before in
+    rw (at .pack-data .kept .1 .1 .0) at (read .byte-at .ensures)
 
 returns-2 : tie.Need-returns-2
 returns-2 c =
-    let at = c .before .before .before .before .before .before .before .before in
-    let start = at .before .before .before .before in
-    let summed = c .before .before in
-    check-sum (start .args .sent .now) (start .args .packed .now) (at .pack-into .last .1 .0) (at .pack-into .result) (start .pre) (at .pack-into .ensures)
-    (start .args .sum) (c .refused .result) (summed .checksum .result) (summed .before .before .if1 .left) (summed .checksum .ensures)
-    (c .before .if2 .taken) (c .refused .ensures)
+    let read = c .before .before in
+    let at = read .before .before .before .before .before .before .before in
+    let a = at .before .before .before .before .args in
+    check-sum (length (a .packed .now)) (contentBy (a .count) (a .body .now)) (at .pack-data .last .1 .1 .0) (at .pack-data .result) (at .pack-data .ensures)
+    (c .refused2 .result) (read .before .checksum .result) (read .before .before .before .enum-told .given .1) (read .before .checksum .ensures)
+    (λ e. c .before .if1 .taken (e ∙ sym (sum-read read))) (c .refused2 .ensures)
 
 returns-3 : tie.Need-returns-3
 returns-3 c =
-    let at = c .before .before .before .before .before .before .before .before in
-    let start = at .before .before .before .before in
-    let summed = c .before .before in
-    check-done (start .args .sent .now) (start .args .packed .now) (at .pack-into .last .1 .0) (at .pack-into .result) (start .pre) (at .pack-into .ensures)
-    (start .args .sum) (c .done .result) (summed .checksum .result) (summed .before .before .if1 .left) (summed .checksum .ensures)
-    (c .before .if2 .left) (c .done .ensures)
+    let read = c .before .before in
+    let at = read .before .before .before .before .before .before .before in
+    let a = at .before .before .before .before .args in
+    check-done (length (a .packed .now)) (contentBy (a .count) (a .body .now)) (at .pack-data .last .1 .1 .0) (at .pack-data .result) (at .pack-data .ensures)
+    (c .done .result) (read .before .checksum .result) (read .before .before .before .enum-told .given .1) (read .before .checksum .ensures)
+    (c .before .if1 .left ∙ sum-read read) (c .done .ensures)
 
 pub check-data-spec : {M : Type 1} → statement M
 check-data-spec =
@@ -36,7 +47,13 @@ check-data-spec =
     (tie.spec
     (λ c κs. search needs)
     (λ c. search needs)
+    (λ c κs. search needs)
+    (λ c. search needs)
     returns
+    (λ c. search needs)
+    (λ c κs. search needs)
+    (λ c. search needs)
+    (λ c. search needs)
     (λ c κs. search needs)
     (λ c κs. search needs)
     (λ c. search needs)

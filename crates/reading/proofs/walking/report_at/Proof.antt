@@ -1,7 +1,7 @@
 -- `report_at` gives the message by how it ends: cut or interrupted, or judged.
 use native.Mathlib.Omega.{arith}
 use borrow.Author.Needs.{needs}
-use Rattle.reading.proofs.Spans.{span-within, span-taken, span-quiet, span-closed, report-ended, report-judged}
+use Rattle.reading.proofs.Spans.{span-within, span-taken, span-closed, report-ended, report-judged}
 use Rattle.reading.proofs.walking.report_at.Statement.{statement}
 use Rattle.reading.proofs.walking.report_at.Tie as tie
 
@@ -17,11 +17,6 @@ slice-aggregate-judge-body : tie.Need-slice-aggregate-judge-body
 slice-aggregate-judge-body c =
     let a = c .before .before .before in
     span-taken (a .args .rest .now) (a .args .span) (a .pre .1)
-
-judge-body-requires : tie.Need-judge-body-requires
-judge-body-requires c κs =
-    let a = c .before .before .before in
-    span-quiet (a .args .rest .now) (a .args .span) (a .pre .1)
 
 add-t9 : tie.Need-add-t9
 add-t9 c =
@@ -44,6 +39,6 @@ report-at-spec =
     (λ c κs. search needs)
     returns
     slice-aggregate-judge-body
-    judge-body-requires
+    (λ c κs. search needs)
     add-t9
     returns-2)
