@@ -6,20 +6,19 @@ use Prim.Native.Nat.{ℕ, _*_, _/_, _%_, _≤_}
 use native.Mathlib.Omega.{arith}
 use lib.ListN.{length, drop, drop-of-length-le}
 use borrow.Author.Tests.{eq-eqb, ne-eqb}
-use Rattle.answers.specs.Table.{Row, outcome}
+use Rattle.answers.specs.Table.{outcome}
 use Rattle.answers.specs.Effect.{Gives, tested}
 use Rattle.answers.specs.declared.Outcome.{Outcome}
 use Rattle.nibbles.specs.Nibbles.{pack, sum, firstWide, packing}
 use Rattle.nibbles.proofs.Laws.{packing-wide, packing-done}
 use Rattle.answers.proofs.Rows.{Refusals, tested-stopped, tested-passed-on}
 use Rattle.messages.specs.declared.kinds.Packed.{Packed as PackedBytes}
-use Rattle.messages.specs.Judge.{dataRows, packedRows}
+use Rattle.messages.specs.Judge.{dataRows, packedRows, sentRows}
 use Rattle.ranges.specs.declared.Failed.{Failed}
 use Rattle.ranges.specs.declared.Failed.the-variants.{At, Nowhere}
 use Rattle.ranges.proofs.Found.{found-some, found-none}
-use Rattle.messages.specs.Kinds.{sizeOf}
-use Rattle.judging.specs.code.Content.{sentIn, sumIn, Gathers}
-use Rattle.judging.specs.code.Judged.{Checked, sentRowsIn}
+use Rattle.judging.specs.code.Content.{Gathers}
+use Rattle.judging.specs.code.Judged.{Checked}
 
 module _ (ns out after : List ℕ) (p : Outcome) (fits : length ns ≡ 2 * length out) (g : Gives (packing ns out) p after) where
   -- Either a byte is above 15, and the answer is 9 with its index, or the buffer holds the packed bytes and no more.
@@ -65,46 +64,51 @@ packed-told ns out after p fits g f refused done = by-packed (packed ns out afte
     by-packed (whole w z q) = record { found = done z ∙ rw w; packed = λ _. q }
 
 -- The three ways out of the test of a dump's data.
-module _ (size : ℕ) (c after : List ℕ) (f : Failed) (g : Gathers (sentIn size c) after f) (r : Outcome) where
-  not-zero : {A : Type 0} (n d : ℕ) → (n ≡ 0 → ⊥) → r ≡ outcome n d → r .answer ≡ 0 → A
-  not-zero n d h e z = absurd (h (sym (ap (λ (o : Outcome). o .answer) e) ∙ z))
+module _ (d : List ℕ) (s : ℕ) (after : List ℕ) (f : Failed) (g : Gathers d after f) (r : Outcome) where
+  not-zero : {A : Type 0} (n m : ℕ) → (n ≡ 0 → ⊥) → r ≡ outcome n m → r .answer ≡ 0 → A
+  not-zero n m h e z = absurd (h (sym (ap (λ (o : Outcome). o .answer) e) ∙ z))
 
-  pub check-wide : (i : ℕ) → f ≡ At i → r ≡ outcome 9 i → Checked size c after r
+  pub check-wide : (i : ℕ) → f ≡ At i → r ≡ outcome 9 i → Checked d s after r
   check-wide i t e =
-      let there = found-some (firstWide (sentIn size c)) i (sym t ∙ g .found) in
-      record { outcome = e ∙ data-wide (sentIn size c) (sumIn size c) i there; packed = not-zero 9 i (λ k. omega arith) e }
+      record { outcome = e ∙ data-wide d s i (found-some (firstWide d) i (sym t ∙ g .found)); packed = not-zero 9 i (λ k. omega arith) e }
 
-  narrow : f ≡ Nowhere → firstWide (sentIn size c) ≡ none
-  narrow t = found-none (firstWide (sentIn size c)) (sym t ∙ g .found)
+  narrow : f ≡ Nowhere → firstWide d ≡ none
+  narrow t = found-none (firstWide d) (sym t ∙ g .found)
 
-  pub check-sum : (x : ℕ) → f ≡ Nowhere → x ≡ sum after → (x ≡ sumIn size c → ⊥) → r ≡ outcome 10 0 → Checked size c after r
+  pub check-sum : (x : ℕ) → f ≡ Nowhere → x ≡ sum after → (x ≡ s → ⊥) → r ≡ outcome 10 0 → Checked d s after r
   check-sum x t q n e =
-      let other : sumIn size c ≡ sum (pack (sentIn size c)) → ⊥ = λ k. n (q ∙ (ap sum (g .packed (narrow t)) ∙ sym k)) in
-      record { outcome = e ∙ data-sum (sentIn size c) (sumIn size c) (narrow t) other; packed = not-zero 10 0 (λ k. omega arith) e }
+      let other : s ≡ sum (pack d) → ⊥ = λ k. n (q ∙ (ap sum (g .packed (narrow t)) ∙ sym k)) in
+      record { outcome = e ∙ data-sum d s (narrow t) other; packed = not-zero 10 0 (λ k. omega arith) e }
 
-  pub check-done : (x : ℕ) → f ≡ Nowhere → x ≡ sum after → x ≡ sumIn size c → r ≡ outcome 0 0 → Checked size c after r
+  pub check-done : (x : ℕ) → f ≡ Nowhere → x ≡ sum after → x ≡ s → r ≡ outcome 0 0 → Checked d s after r
   check-done x t q k e =
-      let same : sumIn size c ≡ sum (pack (sentIn size c)) = sym k ∙ (q ∙ ap sum (g .packed (narrow t))) in
-      record { outcome = e ∙ data-passed (sentIn size c) (sumIn size c) (narrow t) same; packed = λ _. g .packed (narrow t) }
+      let same : s ≡ sum (pack d) = sym k ∙ (q ∙ ap sum (g .packed (narrow t))) in
+      record { outcome = e ∙ data-passed d s (narrow t) same; packed = λ _. g .packed (narrow t) }
+
+-- Packing where the data stand: its own refusal, or the packed bytes.
+module _ (d out after : List ℕ) (p : Outcome) (fits : length d ≡ 2 * length out) (g : Gives (packing d out) p after) where
+  pub packed-whole : p .answer ≡ 0 → Gathers d after Nowhere
+  packed-whole z = packed-told d out after p fits g Nowhere (λ n. absurd (n z)) (λ _. refl)
+
+  pub check-refused : (s : ℕ) → (p .answer ≡ 0 → ⊥) → Checked d s after p
+  check-refused s n = by-packed (packed d out after p fits g)
+    where
+      by-packed : Packed d out after p fits g → Checked d s after p
+      by-packed (wide i w q) = record { outcome = q ∙ data-wide d s i w; packed = λ z. absurd (n z) }
+      by-packed (whole w z q) = absurd (n z)
 
 pub data-refusals : (ns : List ℕ) (s : ℕ) → Refusals (dataRows ns s)
 unfolding dataRows
 data-refusals ns s = omega arith
 
 -- The test of a dump's data: stopped at the data and the sum, or left to the packed bytes.
-module _ (q : PackedBytes) (c after : List ℕ) (d : Outcome) (k : Checked (sizeOf q) c after d) where
-  abbrev sent : List ℕ
-  sent = sentIn (sizeOf q) c
-
-  abbrev both : List Row
-  both = dataRows sent (sumIn (sizeOf q) c)
-
-  pub data-stopped : (d .answer ≡ 0 → ⊥) → d ≡ tested (sentRowsIn q c)
+module _ (q : PackedBytes) (ns : List ℕ) (s : ℕ) (after : List ℕ) (d : Outcome) (k : Checked ns s after d) where
+  pub data-stopped : (d .answer ≡ 0 → ⊥) → d ≡ tested (sentRows q ns s)
   data-stopped n =
       let e = k .outcome in
-      rw (tested-stopped both (packedRows q (pack sent)) (λ z. n (ap (λ (o : Outcome). o .answer) e ∙ z))) e
+      rw (tested-stopped (dataRows ns s) (packedRows q (pack ns)) (λ z. n (ap (λ (o : Outcome). o .answer) e ∙ z))) e
 
-  pub data-left : d .answer ≡ 0 → tested (packedRows q after) ≡ tested (sentRowsIn q c)
+  pub data-left : d .answer ≡ 0 → tested (packedRows q after) ≡ tested (sentRows q ns s)
   data-left z =
       let e = k .outcome in
-      rw (k .packed z, tested-passed-on both (packedRows q (pack sent)) (data-refusals sent (sumIn (sizeOf q) c)) (sym (ap (λ (o : Outcome). o .answer) e) ∙ z))
+      rw (k .packed z, tested-passed-on (dataRows ns s) (packedRows q (pack ns)) (data-refusals ns s) (sym (ap (λ (o : Outcome). o .answer) e) ∙ z))

@@ -14,8 +14,7 @@ use Rattle.frames.specs.code.Extent.{pastRealTime}
 use Rattle.frames.proofs.Past.{Next, past-next}
 use Rattle.judging.specs.code.Content.{contentOf, contentBy, CountsContent, StandsAt, sentIn}
 
--- No real time, no byte less.
-without-within : (b : List ℕ) → length (withoutRealTime b) ≤ length b
+pub without-within : (b : List ℕ) → length (withoutRealTime b) ≤ length b
 unfolding withoutRealTime
 without-within [] = omega arith
 without-within (x ∷ b) = by-test (isRealTime (byteKind x)) (without-within b)
@@ -24,6 +23,7 @@ without-within (x ∷ b) = by-test (isRealTime (byteKind x)) (without-within b)
     by-test true h = omega arith
     by-test false h = omega arith
 
+-- Where no byte is less, there is no real time.
 without-whole : (b : List ℕ) → length (withoutRealTime b) ≡ length b → withoutRealTime b ≡ b
 unfolding withoutRealTime
 without-whole [] e = refl

@@ -10,7 +10,7 @@ ghost use Rattle.streams.specs.Bytes.{withoutRealTime};
 ghost use Rattle.judging.specs.code.Content.{contentOf, contentBy, sentIn, StandsAt, CountsContent, Gathers};
 
 // A dump's data stand behind maker, device, opcode and number.
-const FRONT: usize = 4;
+pub(crate) const FRONT: usize = 4;
 
 // How many bytes the content has: all that there are, where no real time was heard.
 pub(crate) fn count_content(body: &[u8], noise: usize) -> usize
@@ -23,8 +23,8 @@ pub(crate) fn count_content(body: &[u8], noise: usize) -> usize
     frames::drop_real_time(body, &mut nothing)
 }
 
-// Where a byte of the content stands among real time. The callers below have seen that there is one.
-fn place_of(body: &[u8], i: usize) -> usize
+// Where a byte of the content stands among real time. The callers have seen that there is one.
+pub(crate) fn place_of(body: &[u8], i: usize) -> usize
     requires { ⌜ i < length (withoutRealTime (now body)) ⌝ }
     ensures { λ r. ⌜ StandsAt (now (body .entry)) i r ⌝ }
 {
@@ -48,9 +48,9 @@ pub(crate) fn byte_at(body: &[u8], count: usize, i: usize) -> u8
     body[place_of(body, i)]
 }
 
-// A dump's data, packed from among real time: the first byte above 15, or the packed bytes. The caller below has seen that a byte stands
+// A dump's data, packed from among real time: the first byte above 15, or the packed bytes. The callers have seen that a byte stands
 // behind them.
-fn gather(body: &[u8], packed: &mut [u8]) -> Failed
+pub(crate) fn gather(body: &[u8], packed: &mut [u8]) -> Failed
     requires { ⌜ 4 + 2 * length (now packed) < length (withoutRealTime (now body)) ⌝ }
     ensures { λ r. ⌜ Gathers (sentIn (length (now (packed .entry))) (withoutRealTime (now (body .entry)))) (now (packed .exit)) r ⌝ }
 {
@@ -73,7 +73,7 @@ fn gather(body: &[u8], packed: &mut [u8]) -> Failed
     Failed::Nowhere
 }
 
-// A dump's data, packed: the first byte above 15, or the packed bytes. The callers have counted the content, and seen that it has a byte
+// A dump's data, packed: the first byte above 15, or the packed bytes. The caller has counted the content, and seen that it has a byte
 // behind them.
 pub(crate) fn pack_data(body: &[u8], count: usize, packed: &mut [u8]) -> Failed
     requires { ⌜ (count ≡ length (contentBy count (now body))) × (4 + 2 * length (now packed) < count) ⌝ }

@@ -1,8 +1,10 @@
 // A dump by its description.
 use crate::Judged;
 use crate::accepted;
+use crate::content::FRONT;
 use crate::content::byte_at;
-use crate::content::pack_data;
+use crate::content::gather;
+use crate::content::place_of;
 use crate::refused;
 use crate::refused_by;
 use answers::DONE;
@@ -25,29 +27,60 @@ ghost use lib.Dec.{T};
 ghost use lib.ListN.{length, getD};
 ghost use Rattle.answers.specs.Effect.{tested};
 ghost use Rattle.fields.specs.Fields.{size};
-ghost use Rattle.streams.specs.Bytes.{framed};
+ghost use Rattle.streams.specs.Bytes.{framed, withoutRealTime};
 ghost use Rattle.messages.specs.declared.kinds.Kind.the-variants.{Dump as ofDump};
 ghost use Rattle.messages.specs.declared.kinds.Packed.the-variants.{Patch as aPatch};
 ghost use Rattle.messages.specs.Kinds.{sizeOf, master};
 ghost use Rattle.messages.specs.code.Sizes.{sized, lentRows};
-ghost use Rattle.messages.specs.Judge.{misnumbered, numberIn};
+ghost use Rattle.messages.specs.Judge.{sentRows, misnumbered, numberIn};
 ghost use Rattle.judging.specs.code.Content.{contentBy};
-ghost use Rattle.judging.specs.code.Judged.{kindVerdict, judged, Checked, sentRowsIn};
+ghost use Rattle.judging.specs.code.Judged.{kindVerdict, judged, Checked, CheckedIn, sentRowsIn};
 
-// The data bytes of a dump and the sum behind them: 9, 10. The packed bytes are left in `packed`, which fits them.
-// The callers below have seen the length.
-fn check_data(body: &[u8], count: usize, packed: &mut [u8]) -> Outcome
-    requires { ⌜ (count ≡ length (contentBy count (now body))) × (4 + 2 * length (now packed) < count) ⌝ }
-    ensures { λ r. ⌜ Checked (length (now (packed .entry))) (contentBy count (now (body .entry))) (now (packed .exit)) r ⌝ }
+// Where the data bytes of a patch dump end in its content, and its sum stands.
+const PATCH_SENT: usize = FRONT + 2 * PATCH;
+
+// The data bytes of a dump and the sum behind them: 9, 10. The packed bytes are left in `packed`, which fits them; so below.
+// The callers of these three have seen the length.
+fn check_sent(sent: &[u8], sum: u8, packed: &mut [u8]) -> Outcome
+    requires { ⌜ length (now sent) ≡ 2 * length (now packed) ⌝ }
+    ensures { λ r. ⌜ Checked (now (sent .entry)) sum (now (packed .exit)) r ⌝ }
 {
-    let wide = pack_data(body, count, packed);
-    if let Failed::At(i) = wide {
-        return answers::refused(WIDE_DATA, i);
+    let p = nibbles::pack_into(sent, packed);
+    if p.answer != DONE {
+        return p;
     }
-    if nibbles::checksum(packed) != byte_at(body, count, 4 + 2 * packed.len()) {
+    if nibbles::checksum(packed) != sum {
         return answers::refused(WRONG_SUM, 0);
     }
     answers::done(0)
+}
+
+// The same from among real time.
+fn check_noisy(body: &[u8], packed: &mut [u8]) -> Outcome
+    requires { ⌜ 4 + 2 * length (now packed) < length (withoutRealTime (now body)) ⌝ }
+    ensures { λ r. ⌜ CheckedIn (length (now (packed .entry))) (withoutRealTime (now (body .entry))) (now (packed .exit)) r ⌝ }
+{
+    let wide = gather(body, packed);
+    if let Failed::At(i) = wide {
+        return answers::refused(WIDE_DATA, i);
+    }
+    let at = place_of(body, FRONT + 2 * packed.len());
+    if nibbles::checksum(packed) != body[at] {
+        return answers::refused(WRONG_SUM, 0);
+    }
+    answers::done(0)
+}
+
+// The same from the content.
+fn check_data(body: &[u8], count: usize, packed: &mut [u8]) -> Outcome
+    requires { ⌜ (count ≡ length (contentBy count (now body))) × (4 + 2 * length (now packed) < count) ⌝ }
+    ensures { λ r. ⌜ CheckedIn (length (now (packed .entry))) (contentBy count (now (body .entry))) (now (packed .exit)) r ⌝ }
+{
+    if count != body.len() {
+        return check_noisy(body, packed);
+    }
+    let end = FRONT + 2 * packed.len();
+    check_sent(&body[FRONT..end], body[end], packed)
 }
 
 // The tests of packed bytes themselves: 7 for another count of them, then their own 11 and 12.
@@ -60,17 +93,16 @@ pub fn test_packed(packed: Packed, bytes: &[u8]) -> Outcome
     }
 }
 
-// The data of a patch, and its fields: 9 to 12, by numbers that the compiler sees. The caller below has seen the length.
-fn check_patch(body: &[u8], count: usize) -> Outcome
-    requires { ⌜ (count ≡ length (contentBy count (now body))) × (count ≡ 5 + 2 * size) ⌝ }
-    ensures { λ r. ⌜ r ≡ tested (sentRowsIn aPatch (contentBy count (now (body .entry)))) ⌝ }
+// The data of a patch, and its fields: 9 to 12, in a room that fits it. The caller below has seen the length.
+fn check_patch(sent: &[u8], sum: u8, room: &mut [u8]) -> Outcome
+    requires { ⌜ (length (now sent) ≡ 2 * size) × (length (now room) ≡ size) ⌝ }
+    ensures { λ r. ⌜ r ≡ tested (sentRows aPatch (now (sent .entry)) sum) ⌝ }
 {
-    let mut packed = [0u8; PATCH];
-    let data = check_data(body, count, &mut packed);
+    let data = check_sent(sent, sum, room);
     if data.answer != DONE {
         return data;
     }
-    patch::test(&packed)
+    patch::test(room)
 }
 
 // The data of any packed bytes, and their own tests, in a room that fits them. The caller below has seen the length.
@@ -85,12 +117,12 @@ fn check_room(packed: Packed, body: &[u8], count: usize, room: &mut [u8]) -> Out
     test_packed(packed, room)
 }
 
-// `true` only for a patch, whose numbers the compiler sees.
-fn is_patch(packed: Packed) -> bool
-    ensures { λ r. ⌜ (r ≡ true → packed ≡ aPatch) ⌝ }
+// `true` only for a patch without real time.
+fn is_plain_patch(packed: Packed, body: &[u8], count: usize) -> bool
+    ensures { λ r. ⌜ (r ≡ true → (packed ≡ aPatch) × (count ≡ length (now (body .entry)))) ⌝ }
 {
     match packed {
-        Packed::Patch => true,
+        Packed::Patch => count == body.len(),
         _ => false,
     }
 }
@@ -100,10 +132,15 @@ fn check_packed(packed: Packed, body: &[u8], count: usize) -> Outcome
     requires { ⌜ ((count ≡ length (contentBy count (now body))) × (count ≡ 5 + 2 * sizeOf packed)) × (sizeOf packed ≤ master) ⌝ }
     ensures { λ r. ⌜ r ≡ tested (sentRowsIn packed (contentBy count (now (body .entry)))) ⌝ }
 {
-    if is_patch(packed) {
-        return check_patch(body, count);
-    }
     let mut room = [0u8; MASTER];
+    if is_plain_patch(packed, body, count) {
+        // By numbers that the compiler sees.
+        return check_patch(
+            &body[FRONT..PATCH_SENT],
+            body[PATCH_SENT],
+            &mut room[..PATCH],
+        );
+    }
     check_room(packed, body, count, &mut room[..size_of(packed)])
 }
 

@@ -28,10 +28,14 @@ judgedAs opcode b = record { outcome = outcome 0 opcode; bytes = b }
 abbrev pub refusedBy : Outcome → Judged
 refusedBy o = judged (refused o)
 
--- What the test of a dump's data gave, from the content: its outcome, and when done the packed bytes.
-pub record Checked (size : ℕ) (c after : List ℕ) (r : Outcome) : Type 0 where
-  pub outcome : r ≡ tested (dataRows (sentIn size c) (sumIn size c))
-  pub packed : r .answer ≡ 0 → after ≡ pack (sentIn size c)
+-- What the test of a dump's data d and of the sum s behind them gave: its outcome, and when done the packed bytes.
+pub record Checked (d : List ℕ) (s : ℕ) (after : List ℕ) (r : Outcome) : Type 0 where
+  pub outcome : r ≡ tested (dataRows d s)
+  pub packed : r .answer ≡ 0 → after ≡ pack d
+
+-- The same from the content.
+abbrev pub CheckedIn : ℕ → List ℕ → List ℕ → Outcome → Type 0
+CheckedIn size c after r = Checked (sentIn size c) (sumIn size c) after r
 
 -- What is tested of a dump behind its number, from the content.
 abbrev pub sentRowsIn : Packed → List ℕ → List Row

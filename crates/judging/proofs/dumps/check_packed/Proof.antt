@@ -1,5 +1,5 @@
 -- `check_packed` checks a patch by its own numbers, and other bytes by their count.
-use mathlib.Core.Path.{_≡_, sym}
+use mathlib.Core.Path.{_≡_, sym, _∙_}
 use mathlib.Core.List.{List}
 use Prim.Native.Nat.{ℕ, _≤_}
 use native.Mathlib.Omega.{arith}
@@ -8,18 +8,22 @@ use lib.Seq.{length-take-le}
 use borrow.Author.Needs.{needs}
 use Rattle.messages.specs.declared.kinds.Packed.the-variants.{Patch as aPatch}
 use Rattle.messages.specs.Kinds.{sizeOf}
+use Rattle.judging.proofs.Places.{content-whole}
 use Rattle.judging.proofs.dumps.check_packed.Statement.{statement}
 use Rattle.judging.proofs.dumps.check_packed.Tie as tie
 
--- A patch.
-patch : (c : tie.Then1) → c .before .before .before .args .packed ≡ aPatch
-patch c = c .before .is-patch .ensures (c .if1 .taken)
+-- A patch, as it stands.
+plain : (c : tie.Then1) → let a = c .before .before .before .args in (a .packed ≡ aPatch) × (a .count ≡ length (a .body .now))
+plain c = c .before .is-plain-patch .ensures (c .if1 .taken)
 
-check-patch-requires : tie.Need-check-patch-requires
-check-patch-requires c κs = let start = c .before .before .before in (start .pre .0 .0, rw (patch c) at (start .pre .0 .1))
+long : (c : tie.Then1) → length (c .before .before .before .args .body .now) ≡ 273
+long c = sym (plain c .1) ∙ (rw (plain c .0) at (c .before .before .before .pre .0 .1))
 
 returns : tie.Need-returns
-returns c = rw (patch (c .before)) (c .check-patch .ensures)
+returns c =
+    let t = c .before .before .before .before .before in
+    let a = t .before .before .before .args in
+    rw (content-whole (a .count) (a .body .now) (plain t .1), plain t .0) (c .before .check-patch .ensures)
 
 -- Other bytes, by their count.
 small : (c : tie.After-size-of) → c .size-of .result ≤ 172
@@ -42,7 +46,13 @@ check-packed-spec =
     tie.close
     (tie.spec
     (λ c κs. search needs)
-    check-patch-requires
+    (λ c. search needs)
+    (λ c. search needs)
+    (λ c. omega (arith, long c))
+    (λ c. omega (arith, long (c .before .before)))
+    (λ c. search needs)
+    (λ c. search needs)
+    (λ c κs. search needs)
     returns
     (λ c κs. search needs)
     (λ c. omega (arith, small c))
