@@ -56,17 +56,3 @@ module _ (w o : List ℕ) (b : ℕ) where
   kept-full h =
       let k : length o ≤ length w + 1 = omega arith in
       rw (take-append-le (length o) w (b ∷ []) h, drop-of-length-le o h, drop-of-length-le o k)
-
--- What a buffer into which the bytes w were kept has of them: all, or as many as it takes.
-module _ (w old new : List ℕ) (n : ℕ) (k : Kept w old new n) where
-  pub kept-part : n < length old → take n new ≡ take (length old) w
-  kept-part h =
-      let e = k .count in
-      let small : length w ≤ length old = omega arith in
-      rw (k .bytes, e, take-all (length old) w small) (take-append-seam w (drop (length w) old))
-
-  pub kept-whole : length old ≤ n → new ≡ take (length old) w
-  kept-whole h =
-      let e = k .count in
-      let long : length old ≤ length w = omega arith in
-      k .bytes ∙ rw (drop-of-length-le old long, append-nil)

@@ -71,10 +71,6 @@ kind-sized = every-kind (λ k. T (sized k)) tt (omega arith)
 pub filed-sized : (k : Kind) → Filed k → Sized k
 filed-sized k f = is-sized k (subst (λ (k : Kind). T (sized k)) f (kind-sized (opcodeOf k)))
 
--- No kind is longer than 351.
-pub longest : (o : ℕ) → lengthOf (kindOf o) ≤ 351
-longest = every-kind (λ k. lengthOf k ≤ 351) (omega arith) (omega arith)
-
 -- Each kind of the list is found by its own opcode: no two have the same.
 pub all-filed : All Filed kinds
 unfolding kindOf

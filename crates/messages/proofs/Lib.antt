@@ -1,6 +1,5 @@
 pub mod Filed
 pub mod Content
-pub mod Long
 pub mod Numbers
 pub mod DumpLaws
 pub mod Replaced

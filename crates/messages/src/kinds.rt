@@ -55,9 +55,6 @@ impl EditBuffer {
     pub const LENGTH: usize = 275;
 }
 
-// No message of ours is longer.
-pub const LONGEST: usize = MasterParameters::LENGTH;
-
 // The packed bytes of a patch and of a master.
 pub const PATCH: usize = patch::SIZE;
 
