@@ -29,9 +29,11 @@ fn call(random: &mut Random) -> Call {
     }
 }
 
-/// A stream and a place in it: the start of a message, or anywhere, past the end too.
-fn stream(random: &mut Random) -> (Vec<u8>, usize) {
-    let input = streams::stream(random.draw());
+/// A stream and a place to walk it from.
+type Stream = (Vec<u8>, usize);
+
+/// A place in a stream: the start of a message, or anywhere, past the end too.
+fn placed(random: &mut Random, input: Vec<u8>) -> Stream {
     let place = if random.one_in(2) {
         let some = random.below(6);
         let report = reports(&input).take(some + 1).last();
@@ -46,8 +48,35 @@ fn stream(random: &mut Random) -> (Vec<u8>, usize) {
     (input, place)
 }
 
+fn stream(random: &mut Random) -> Stream {
+    let input = streams::stream(random.draw());
+    placed(random, input)
+}
+
+/// A stream with real time among all its bytes, seldom or many behind each.
+fn noisy(random: &mut Random) -> Stream {
+    let seldom = random.within(2..=8);
+    let mut input = Vec::new();
+    for byte in streams::stream(random.draw()) {
+        input.push(byte);
+        while random.one_in(seldom) {
+            input.push(random.byte_within(0xF8..=0xFF));
+        }
+    }
+    placed(random, input)
+}
+
 pub fn walk(random: &mut Random) -> Call {
-    let (input, place) = stream(random);
+    let stream = stream(random);
+    walk_of(random, stream)
+}
+
+pub fn walk_noisy(random: &mut Random) -> Call {
+    let stream = noisy(random);
+    walk_of(random, stream)
+}
+
+fn walk_of(random: &mut Random, (input, place): Stream) -> Call {
     Call {
         first: Lent::new(random, &input),
         place,
@@ -56,7 +85,16 @@ pub fn walk(random: &mut Random) -> Call {
 }
 
 pub fn read(random: &mut Random) -> Call {
-    let (input, place) = stream(random);
+    let stream = stream(random);
+    read_of(random, stream)
+}
+
+pub fn read_noisy(random: &mut Random) -> Call {
+    let stream = noisy(random);
+    read_of(random, stream)
+}
+
+fn read_of(random: &mut Random, (input, place): Stream) -> Call {
     let needed = random.pick(&[0, 134, 134, 134, 172, 172]);
     let length = around(random, needed);
     Call {
@@ -68,7 +106,16 @@ pub fn read(random: &mut Random) -> Call {
 }
 
 pub fn reports_from(random: &mut Random) -> Call {
-    let (input, place) = stream(random);
+    let stream = stream(random);
+    reports_of(random, stream)
+}
+
+pub fn reports_noisy(random: &mut Random) -> Call {
+    let stream = noisy(random);
+    reports_of(random, stream)
+}
+
+fn reports_of(random: &mut Random, (input, place): Stream) -> Call {
     let length = match random.below(8) {
         0 => random.below(5),
         1 => around(random, 4 * A_CALL),

@@ -2,7 +2,7 @@
 //!
 //!     compare [COUNT] [SEED]     COUNT inputs for each routine (3,000), from SEED on (0)
 //!     compare long [MIB]         reports and growth on inputs of MIB mebibytes (64)
-//!     compare stack [COUNT]      how deep each routine's stack goes, on COUNT inputs each (3,000)
+//!     compare stack [COUNT]      how deep each routine's stack goes, on COUNT inputs each (1,000)
 //!     compare routines           the names of the routines that are compared
 //!
 //! Input number i of a routine is made from seed SEED + i alone. A difference prints that seed, all
@@ -31,7 +31,7 @@ fn main() -> ExitCode {
     let held = match words[..] {
         ["long"] => long::run(64),
         ["long", mebibytes] => long::run(some(mebibytes)),
-        ["stack"] => stack::run(COUNT),
+        ["stack"] => stack::run(stack::COUNT),
         ["stack", count] => stack::run(some(count)),
         ["routines"] => {
             ROUTINES

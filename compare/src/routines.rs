@@ -222,27 +222,51 @@ const WRITE_BUS_EDIT: Routine = Routine {
     },
 };
 
-pub static ROUTINES: [Routine; 21] = [
+const WALK: Routine = Routine {
+    name: "walk",
+    inputs: "",
+    source: Source::Any(calls::walk),
+    library: |c| ffi::walk(c.first.get(), c.place).into(),
+    expected: |c| reference::walk(c.first.get(), c.place).into(),
+};
+
+const READ: Routine = Routine {
+    name: "read",
+    inputs: "",
+    source: Source::Any(calls::read),
+    library: |c| ffi::read(c.first.get(), c.place, c.second.get_mut()).into(),
+    expected: |c| reference::read(c.first.get(), c.place, c.second.get_mut()).into(),
+};
+
+const REPORTS: Routine = Routine {
+    name: "reports",
+    inputs: "",
+    source: Source::Any(calls::reports_from),
+    library: |c| ffi::reports(c.first.get(), c.place, c.room.get_mut()).into(),
+    expected: reports,
+};
+
+/// What the inputs are called that have real time among all their bytes.
+const NOISY: &str = ", among real time";
+
+pub static ROUTINES: [Routine; 24] = [
+    WALK,
     Routine {
-        name: "walk",
-        inputs: "",
-        source: Source::Any(calls::walk),
-        library: |c| ffi::walk(c.first.get(), c.place).into(),
-        expected: |c| reference::walk(c.first.get(), c.place).into(),
+        inputs: NOISY,
+        source: Source::Any(calls::walk_noisy),
+        ..WALK
     },
+    READ,
     Routine {
-        name: "read",
-        inputs: "",
-        source: Source::Any(calls::read),
-        library: |c| ffi::read(c.first.get(), c.place, c.second.get_mut()).into(),
-        expected: |c| reference::read(c.first.get(), c.place, c.second.get_mut()).into(),
+        inputs: NOISY,
+        source: Source::Any(calls::read_noisy),
+        ..READ
     },
+    REPORTS,
     Routine {
-        name: "reports",
-        inputs: "",
-        source: Source::Any(calls::reports_from),
-        library: |c| ffi::reports(c.first.get(), c.place, c.room.get_mut()).into(),
-        expected: reports,
+        inputs: NOISY,
+        source: Source::Any(calls::reports_noisy),
+        ..REPORTS
     },
     TEST_PATCH,
     Routine {

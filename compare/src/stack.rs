@@ -1,18 +1,22 @@
 //! How deep the stack of each exported routine goes.
 //!
-//! A routine is called on a stack of its own that is painted before the call. Behind the call the
-//! lowest byte that has changed tells how far below its caller the routine wrote. It is called so
-//! on every input that it is compared on by seed, and on streams made to go deep; the deepest counts.
+//! A routine is called on a stack of its own that is painted before the call. After it the lowest
+//! byte that has changed tells how far below its caller the routine wrote, its return address
+//! included. It is called so on the inputs that it is compared on; those that read a stream also on
+//! each message of one as the eighth report of a call, with real time behind each byte. The deepest
+//! call counts.
 
 use std::arch::asm;
 
 use compare::ffi::{A_CALL, EMPTY};
-use reference::streams::{self, Random};
 use reference::reports;
+use reference::streams::{self, Random};
 
 use crate::lent::{Call, Fill, Lent};
 use crate::routines::{Source, ROUTINES};
 
+/// How many inputs each routine is measured on where the command line names none.
+pub const COUNT: usize = 1_000;
 /// The size of the painted stack, far more than any routine needs.
 const SIZE: usize = 1 << 14;
 /// A byte that a routine writes may be that of the paint, so each call is made on two paints.
