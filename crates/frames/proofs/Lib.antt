@@ -1,6 +1,5 @@
 pub mod Extent
-pub mod Kept
 pub mod Found
 pub mod Handing
 pub mod Blocks
-pub mod Past
+pub mod RealTime

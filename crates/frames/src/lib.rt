@@ -1,4 +1,4 @@
-// Finding system exclusive messages in a stream of bytes: where one starts, how far it runs, its bytes without real time.
+// Finding system exclusive messages in a stream of bytes: where one starts, how far it runs, its bytes past real time.
 use answers::CUT;
 use answers::DONE;
 use answers::INTERRUPTED;
@@ -8,7 +8,7 @@ ghost use lib.Dec.{eqb};
 ghost use Prim.Native.Nat.{_+_, _≤_};
 ghost use lib.ListN.{length};
 ghost use Rattle.streams.specs.Bytes.{withoutRealTime};
-ghost use Rattle.frames.specs.code.Extent.{ahead, startAt, spanOf, pastRealTime, Kept};
+ghost use Rattle.frames.specs.code.Extent.{ahead, startAt, spanOf, pastRealTime};
 ghost use Rattle.frames.specs.code.Blocks.{None, Ahead, Onward};
 
 // System exclusive, and end of exclusive: real time lies above it.
@@ -162,19 +162,14 @@ pub fn past_real_time(bytes: &[u8], place: usize) -> usize
     i
 }
 
-// The bytes that are not real time, at the start of `out`, as many as fit; and how many they are.
-pub fn drop_real_time(bytes: &[u8], out: &mut [u8]) -> usize
-    ensures { λ r. ⌜ Kept (withoutRealTime (now (bytes .entry))) (now (out .entry)) (now (out .exit)) r ⌝ }
+// How many bytes are not real time.
+pub fn count_without_real_time(bytes: &[u8]) -> usize
+    ensures { λ r. ⌜ r ≡ length (withoutRealTime (now (bytes .entry))) ⌝ }
 {
     let mut n: usize = 0;
     let mut i: usize = 0;
     while i < bytes.len() {
-        let b = bytes[i];
-        if END < b {
-            i += 1;
-        } else if n < out.len() {
-            out[n] = b;
-            n += 1;
+        if END < bytes[i] {
             i += 1;
         } else {
             n += 1;

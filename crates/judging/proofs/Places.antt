@@ -11,7 +11,7 @@ use lib.Seq.{drop-drop, getD-drop, getD-take, length-take-le}
 use borrow.Author.Tests.{eq-eqb, ne-eqb, eqb-true}
 use Rattle.streams.specs.Bytes.{withoutRealTime, isRealTime, byteKind}
 use Rattle.frames.specs.code.Extent.{pastRealTime}
-use Rattle.frames.proofs.Past.{Next, past-next}
+use Rattle.frames.proofs.RealTime.{Next, past-next}
 use Rattle.judging.specs.code.Content.{contentOf, contentBy, CountsContent, StandsAt, sentIn}
 
 pub without-within : (b : List ℕ) → length (withoutRealTime b) ≤ length b

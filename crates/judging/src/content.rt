@@ -19,8 +19,7 @@ pub(crate) fn count_content(body: &[u8], noise: usize) -> usize
     if noise == 0 {
         return body.len();
     }
-    let mut nothing = [0u8; 0];
-    frames::drop_real_time(body, &mut nothing)
+    frames::count_without_real_time(body)
 }
 
 // Where a byte of the content stands among real time. The callers have seen that there is one.

@@ -98,8 +98,8 @@ fn judge_content(body: &[u8], count: usize) -> Judged
     judge_kind(byte_at(body, count, 2), body, count)
 }
 
-// What a complete message comes to, from what stands between F0H and F7H and how many real-time bytes were heard there: where none was,
-// from all of it, else from what is left without them.
+// What a complete message comes to, from what stands between F0H and F7H. `noise` is how many real-time bytes the caller heard there: where
+// that is none, every byte counts as content; else real time is dropped.
 pub fn judge_body(body: &[u8], noise: usize) -> Judged
     ensures { λ r. ⌜ r ≡ judged (judge (framed (contentOf noise (now (body .entry))))) ⌝ }
 {

@@ -15,7 +15,7 @@ use Rattle.streams.specs.Stream.{messageAt, reading}
 use Rattle.streams.specs.Stream as stream
 use Rattle.frames.specs.declared.Span.{Span}
 use Rattle.streams.proofs.Bytes.{body-within, body-take}
-use Rattle.frames.proofs.Kept.{without-none}
+use Rattle.frames.proofs.RealTime.{without-none}
 use Rattle.frames.proofs.Found.{message-refused, message-complete}
 use Rattle.messages.specs.Judge.{judge}
 use Rattle.judging.specs.code.Content.{contentOf}

@@ -44,7 +44,7 @@ readInto f e (done op bytes packed) lent =
 readInto f e (refused o) lent = record { result = reading f e o []; lent = lent }
 
 module _ (judge : List ℕ → Verdict) where
-  -- The message from place f to e, with the bytes b between F0H and what follows: F7H closes it, another byte interrupts it, none cuts it.
+  -- The message whose F0H stands at place f, with the bytes b behind it up to place e: F7H there closes it, another byte interrupts it, none cuts it.
   abbrev pub closedBy : ℕ → ℕ → List ℕ → List ℕ → Report
   closedBy f e b [] = report f e (refused (outcome 2 0))
   closedBy f e b (x ∷ r) =

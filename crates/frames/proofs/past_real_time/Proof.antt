@@ -4,7 +4,7 @@ use Prim.Native.Nat.{_+_, _-_}
 use native.Mathlib.Omega.{arith}
 use lib.ListN.{length, drop}
 use Rattle.frames.specs.code.Extent.{realTimeAhead, pastRealTime}
-use Rattle.frames.proofs.Past.{past-more, past-found, past-end}
+use Rattle.frames.proofs.RealTime.{past-more, past-found, past-end}
 use Rattle.frames.proofs.past_real_time.Statement.{statement}
 use Rattle.frames.proofs.past_real_time.Tie as tie
 

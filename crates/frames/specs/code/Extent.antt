@@ -1,10 +1,9 @@
 -- Where a message starts among bytes and how far it runs, as counts.
-use mathlib.Core.Path.{_≡_}
 use mathlib.Core.Bool.{cond}
-use mathlib.Core.List.{List, [], _∷_, _++_}
+use mathlib.Core.List.{List, [], _∷_}
 use Prim.Native.Nat.{ℕ, suc, _+_}
 use lib.Dec.{eqb}
-use lib.ListN.{length, take, drop}
+use lib.ListN.{length, drop}
 use Rattle.streams.specs.Bytes.{isRealTime, byteKind, body}
 use Rattle.frames.specs.declared.Span.{Span}
 
@@ -26,11 +25,6 @@ endingOf (x ∷ r) = cond (eqb x 0xF7) 0 3
 -- How many bytes a message has behind its F0H before the first byte in 80H..F7H, how many of them are real time, and how it ends.
 unfoldable pub spanOf : List ℕ → Span
 spanOf t = record { length = length (body t); noise = realTimeIn (body t); ending = endingOf (drop (length (body t)) t) }
-
--- The bytes w stand at the start of a lent buffer, as many as fit, and n is how many they are.
-pub record Kept (w old new : List ℕ) (n : ℕ) : Type 0 where
-  pub count : n ≡ length w
-  pub bytes : new ≡ take (length old) w ++ drop (length w) old
 
 -- Where the first F0H at place p or later stands; the input's length, or p past it, where there is none.
 unfoldable pub startAt : List ℕ → ℕ → ℕ

@@ -12,6 +12,6 @@ reducing m s (b ∷ bs) = reducing m ((s + b) % m) bs
 pub record Reduced : Type 0 where
   pub at-the-end : (m s : ℕ) (bytes : List ℕ) → reducing m (s % m) bytes ≡ (s + total bytes) % m
   pub by-128 : (bytes : List ℕ) → reducing 128 0 bytes ≡ sum bytes
-  -- A byte wraps at 256: it holds every sum on the way, and the last gives the same.
+  -- A byte wraps at 256: each sum on the way, so reduced, is a byte, and the last, reduced once more by 128, is the sum.
   pub in-a-byte : (s : ℕ) (bytes : List ℕ) → s < 256 → reducing 256 s bytes < 256
   pub by-256 : (bytes : List ℕ) → reducing 256 0 bytes % 128 ≡ sum bytes

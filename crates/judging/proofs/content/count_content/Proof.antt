@@ -11,11 +11,8 @@ returns c =
 
 returns-2 : tie.Need-returns-2
 returns-2 c =
-    let at = c .before in
-    let else1 = at .before .before in
-    let a = else1 .before .before .args in
-    counts-left (a .noise) (a .body .now) (at .drop-real-time .result) (else1 .if1 .left) (at .drop-real-time .ensures .count)
+    let a = c .before .before .before .args in
+    counts-left (a .noise) (a .body .now) (c .count-without-real-time .result) (c .before .if1 .left) (c .count-without-real-time .ensures)
 
 pub count-content-spec : {M : Type 1} → statement M
-count-content-spec =
-    tie.close (tie.spec returns (λ c. search needs) (λ c κs. search needs) returns-2)
+count-content-spec = tie.close (tie.spec returns (λ c κs. search needs) returns-2)

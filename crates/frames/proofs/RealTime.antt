@@ -1,4 +1,4 @@
--- Past real time, a byte at a time: at an index of the bytes, as a loop has them; and what stands there.
+-- Real time among bytes, a byte at a time: at an index of the bytes, as a loop has them; and what is left without it.
 use mathlib.Core.Path.{_≡_, refl, sym, ap, _∙_}
 use mathlib.Core.Bool.{Bool, true, false, cond}
 use mathlib.Core.List.{List, [], _∷_}
@@ -7,7 +7,7 @@ use native.Mathlib.Omega.{arith}
 use lib.ListN.{length, getD, drop, length-drop, drop-of-length-le}
 use lib.Seq.{drop-drop, getD-drop}
 use Rattle.streams.specs.Bytes.{realTime, byteKind, isRealTime, withoutRealTime}
-use Rattle.frames.specs.code.Extent.{realTimeAhead, pastRealTime}
+use Rattle.frames.specs.code.Extent.{realTimeIn, realTimeAhead, pastRealTime}
 use Rattle.streams.proofs.Bytes.{kind-is, stays}
 use Rattle.frames.proofs.Extent.{split}
 
@@ -19,6 +19,30 @@ module _ (s : List ℕ) (i : ℕ) (h : i < length s) where
   pub past-found : getD s i 0 ≤ 0xF7 → realTimeAhead (drop i s) ≡ 0
   unfolding realTimeAhead
   past-found k = rw (split s i h) (simp (stays _ k))
+
+  -- Without real time the bytes from the index on begin behind it, or with the byte there.
+  pub without-passed : 0xF7 < getD s i 0 → withoutRealTime (drop i s) ≡ withoutRealTime (drop (i + 1) s)
+  unfolding withoutRealTime
+  without-passed k = rw (split s i h) (simp (kind-is realTime _ k))
+
+  pub without-kept : getD s i 0 ≤ 0xF7 → withoutRealTime (drop i s) ≡ getD s i 0 ∷ withoutRealTime (drop (i + 1) s)
+  unfolding withoutRealTime
+  without-kept k = rw (split s i h) (simp (stays _ k))
+
+pub without-end : (s : List ℕ) (i : ℕ) → length s ≤ i → withoutRealTime (drop i s) ≡ []
+unfolding withoutRealTime
+without-end s i h = rw (drop-of-length-le s h)
+
+-- Bytes without real time keep every byte.
+pub without-none : (s : List ℕ) → realTimeIn s ≡ 0 → withoutRealTime s ≡ s
+unfolding realTimeIn withoutRealTime
+without-none [] e = refl
+without-none (b ∷ s) e = by-test (isRealTime (byteKind b)) e (without-none s)
+  where
+    by-test : (t : Bool) → cond t (suc (realTimeIn s)) (realTimeIn s) ≡ 0 → (realTimeIn s ≡ 0 → withoutRealTime s ≡ s)
+        → cond t (withoutRealTime s) (b ∷ withoutRealTime s) ≡ b ∷ s
+    by-test true z i = absurd (omega arith)
+    by-test false z i = rw (i z)
 
 pub past-end : (s : List ℕ) (i : ℕ) → length s ≤ i → realTimeAhead (drop i s) ≡ 0
 unfolding realTimeAhead
