@@ -10,7 +10,7 @@ use Rattle.fields.specs.Fields.{placeOf, parameterOf, parameterAt, size}
 use Rattle.fields.specs.declared.BytePlace.{BytePlace}
 use Rattle.fields.specs.declared.FoundPlace.{FoundPlace}
 use Rattle.fields.specs.declared.FoundPlace.the-variants.{At, Nothing as no-place}
-use Rattle.fields.specs.code.Columns.{foundPlace, orNone, placeOrNone}
+use Rattle.fields.specs.code.Columns.{foundPlace, orNone}
 use Rattle.fields.proofs.Rules.{found-place}
 
 -- The place that a lookup found.

@@ -1,6 +1,6 @@
 -- What packing a dump's data into a buffer that just fits it tells: 9, or the packed bytes.
 use mathlib.Core.Path.{_≡_, refl, sym, ap, _∙_}
-use mathlib.Core.List.{List, [], _++_, append-nil}
+use mathlib.Core.List.{List, [], append-nil}
 use mathlib.Core.Option.{Option, none, some}
 use Prim.Native.Nat.{ℕ, _*_, _/_, _%_, _≤_}
 use native.Mathlib.Omega.{arith}
@@ -60,7 +60,10 @@ packed-told ns out after p fits g f refused done = by-packed (packed ns out afte
   where
     by-packed : Packed ns out after p fits g → Gathers ns after f
     by-packed (wide i w q) =
-        record { found = refused (λ z. omega (arith, ap (λ (o : Outcome). o .answer) q)) ∙ rw (q, w); packed = λ n. let z : _≡_ {A = ℕ} 0 1 = cc in absurd (omega arith) }
+        record {
+          found = refused (λ z. omega (arith, ap (λ (o : Outcome). o .answer) q)) ∙ rw (q, w);
+          packed = λ n. let z : _≡_ {A = ℕ} 0 1 = cc in absurd (omega arith);
+        }
     by-packed (whole w z q) = record { found = done z ∙ rw w; packed = λ _. q }
 
 -- The three ways out of the test of a dump's data.

@@ -2,7 +2,7 @@
 -- was above 15.
 use mathlib.Core.Path.{_≡_, refl, sym, ap, _∙_}
 use mathlib.Core.List.{List, [], _∷_, _++_, append-nil}
-use mathlib.Core.Option.{none, some}
+use mathlib.Core.Option.{some}
 use Prim.Native.Nat.{ℕ, _+_, _*_, _<_, _≤_}
 use native.Mathlib.Omega.{arith}
 use lib.ListN.{length, take, drop, getD, set, drop-of-length-le}
@@ -74,7 +74,8 @@ module _ (b o₀ : List ℕ) (h : 4 + 2 * length o₀ < length (withoutRealTime 
           let twice : 2 * (k + 1) ≡ 2 * k + 1 + 1 = omega arith in
           let further : 4 + 2 * (k + 1) ≡ 4 + 2 * k + 1 + 1 = omega arith in
           let ends : length (passed sent k) ≡ k = omega (arith, length-pack (take (2 * k) sent), length-take-le (2 * k) sent (omega (arith, long))) in
-          let more : passed sent (k + 1) ≡ passed sent k ++ ((getD b at 0 + 16 * getD b next 0) ∷ []) = rw (← low-byte, ← high-byte) (pack-take sent k (omega (arith, long))) in
+          let byte = getD b at 0 + 16 * getD b next 0 in
+          let more : passed sent (k + 1) ≡ passed sent k ++ (byte ∷ []) = rw (← low-byte, ← high-byte) (pack-take sent k (omega (arith, long))) in
           record {
             copied = copied-next (passed sent) (length o₀) o₀ o k (u .copied) l k (_ ∷ []) ends more (omega arith);
             stands = rw further (stands-next b (4 + 2 * k + 1) next second (omega arith));

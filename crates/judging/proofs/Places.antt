@@ -6,13 +6,13 @@ use Prim.Native.Nat.{ℕ, zero, suc, _+_, _*_, _<_, _≤_}
 use native.Mathlib.Nat.{add-zero}
 use native.Mathlib.Omega.{arith}
 use lib.Dec.{eqb}
-use lib.ListN.{length, take, drop, getD, length-drop}
+use lib.ListN.{length, drop, getD, length-drop}
 use lib.Seq.{drop-drop, getD-drop, getD-take, length-take-le}
 use borrow.Author.Tests.{eq-eqb, ne-eqb, eqb-true}
 use Rattle.streams.specs.Bytes.{withoutRealTime, isRealTime, byteKind}
 use Rattle.frames.specs.code.Extent.{pastRealTime}
-use Rattle.frames.proofs.RealTime.{Next, past-next}
-use Rattle.judging.specs.code.Content.{contentOf, contentBy, CountsContent, StandsAt, sentIn}
+use Rattle.frames.proofs.RealTime.{past-next}
+use Rattle.judging.specs.code.Content.{contentBy, CountsContent, StandsAt, sentIn}
 
 pub without-within : (b : List ℕ) → length (withoutRealTime b) ≤ length b
 unfolding withoutRealTime

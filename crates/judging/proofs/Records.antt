@@ -44,7 +44,8 @@ module _ (c : List ℕ) (j : Judged) (q : j ≡ judged (judge (framed c))) where
         by-size (suc n) h = omega (arith, length-pack (sentIn (suc n) c), sent-length (suc n) c (omega (arith, h (omega arith))))
 
     -- Too short a buffer, and one with room.
-    pub record-short : (lent : List ℕ) (r : Judged) → length lent < its .size → r ≡ refusedBy (outcome 13 0) → Gives (recordedAs (judge (framed c)) lent) r lent
+    pub record-short : (lent : List ℕ) (r : Judged) → length lent < its .size → r ≡ refusedBy (outcome 13 0)
+        → Gives (recordedAs (judge (framed c)) lent) r lent
     record-short lent r h k =
         rw (its .verdict, lt-leb (length (packed c its)) (length lent) (omega (arith, packed-length))) (record { result = k; lent = refl })
 

@@ -21,7 +21,7 @@ use Rattle.messages.specs.declared.kinds.Short.{Short}
 use Rattle.messages.specs.Kinds.{kindOf, opcodeOf, sizeOf, countOf, lengthOf, isUnknown}
 use Rattle.messages.specs.Judge.{byteAt, dumpRows, operandRows, numberIn, kindRows, recordOf, judge}
 use Rattle.judging.specs.code.Content.{sentIn, sumIn}
-use Rattle.judging.specs.code.Judged.{kindVerdict, judged, judgedAs, refusedBy, sentRowsIn}
+use Rattle.judging.specs.code.Judged.{kindVerdict, judged, judgedAs, refusedBy}
 use Rattle.messages.specs.code.Sizes.{sized}
 use Rattle.messages.proofs.Filed.{is-sized}
 use Rattle.messages.proofs.DumpLaws.{dump-refusals}

@@ -3,11 +3,10 @@
 use answers::DONE;
 use ranges::Failed;
 ghost use mathlib.Core.Path.{_≡_};
-ghost use mathlib.Core.Option.{none};
 ghost use Prim.Native.Nat.{_+_, _*_, _<_};
 ghost use lib.ListN.{length, getD};
 ghost use Rattle.streams.specs.Bytes.{withoutRealTime};
-ghost use Rattle.judging.specs.code.Content.{contentOf, contentBy, sentIn, StandsAt, CountsContent, Gathers};
+ghost use Rattle.judging.specs.code.Content.{contentBy, sentIn, StandsAt, CountsContent, Gathers};
 
 // A dump's data stand behind maker, device, opcode and number.
 pub(crate) const FRONT: usize = 4;

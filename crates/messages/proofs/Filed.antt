@@ -8,7 +8,7 @@ use lib.Dec.{T, eqb, eqb→eq, leb→le}
 use borrow.Author.Tests.{eqb-true, ne-eqb}
 use Rattle.answers.specs.Lists.{All}
 use Rattle.ranges.proofs.Below.{parts}
-use Rattle.messages.specs.Kinds.{Kind, ofDump, ofShort, unknown, kinds, opcodeOf, among, kindOf, Filed, lengthOf, isUnknown, sizeOf, countOf, master}
+use Rattle.messages.specs.Kinds.{Kind, ofDump, ofShort, unknown, kinds, opcodeOf, among, kindOf, Filed, isUnknown, sizeOf, countOf, master}
 use Rattle.messages.specs.code.Sizes.{sized}
 
 among-all : (P : Kind → Type 0) → P unknown → (ks : List Kind) → All P ks → (o : ℕ) → P (among ks o)

@@ -1,7 +1,5 @@
 -- `judge_content` tests the maker, the device and that there is an opcode; F7H stands there where the content is too short.
 use mathlib.Core.Path.{_≡_, _∙_, sym}
-use mathlib.Core.List.{List}
-use Prim.Native.Nat.{ℕ}
 use native.Mathlib.Omega.{arith}
 use lib.ListN.{getD}
 use borrow.Author.Needs.{needs}

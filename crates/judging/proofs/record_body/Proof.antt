@@ -1,9 +1,9 @@
 -- `record_body` judges, then sees to the room, then packs: each return is a case of `recordedAs`.
-use mathlib.Core.Path.{_≡_, refl, sym, ap, subst, _∙_}
-use mathlib.Core.List.{List, _++_}
-use Prim.Native.Nat.{ℕ, _*_, _+_, _≤_, _<_}
+use mathlib.Core.Path.{_≡_, sym, ap, subst, _∙_}
+use mathlib.Core.List.{List}
+use Prim.Native.Nat.{ℕ}
 use native.Mathlib.Omega.{arith}
-use lib.ListN.{length, take, drop}
+use lib.ListN.{length, take}
 use lib.Seq.{length-take-le}
 use borrow.Author.Needs.{needs}
 use Rattle.answers.specs.Effect.{Gives}
@@ -56,12 +56,12 @@ returns-2 c =
     (record-short (content j) (j .judge-content .result) (j .judge-content .ensures) (its e) lent (c .refused-by .result)
     (omega (arith, size n, c .before .if2 .taken)) (c .refused-by .ensures))
 
+abbrev buffer : tie.Then3 → List ℕ
+buffer t = t .before .before .before .before .before .before .before .before .before .before .before .args .buffer .now
+
 -- The part of the buffer that is lent has room for the packed bytes and no more.
-room : (t : tie.Then3) → let n = t .before .before in let lent = n .before .before .before .before .before .before .before .before .before .args .buffer .now in
-    length (take (n .packed-size .result) lent) ≡ n .packed-size .result
-room t =
-    let n = t .before .before in
-    length-take-le (n .packed-size .result) (n .before .before .before .before .before .before .before .before .before .args .buffer .now) (omega (arith, t .before .if2 .left))
+room : (t : tie.Then3) → length (take (t .before .before .packed-size .result) (buffer t)) ≡ t .before .before .packed-size .result
+room t = length-take-le (t .before .before .packed-size .result) (buffer t) (omega (arith, t .before .if2 .left))
 
 pack-data-requires : tie.Need-pack-data-requires
 pack-data-requires c κs =

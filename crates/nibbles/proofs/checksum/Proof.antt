@@ -1,7 +1,7 @@
 -- `checksum` gives the sum of the bytes. The invariant: what was added up, with the bytes that are left, reduced at each step, is the whole so
 -- reduced; a `u8` wraps at 256. What was added up is reduced once more by 128, and by `Reduced` that is the sum.
 use mathlib.Core.Path.{_≡_, ap, sym, _∙_}
-use Prim.Native.Nat.{ℕ, _+_, _-_, _%_, _≤_}
+use Prim.Native.Nat.{ℕ, _-_, _%_, _≤_}
 use native.Mathlib.Omega.{arith}
 use borrow.Author.Needs.{needs}
 use lib.ListN.{length, drop}

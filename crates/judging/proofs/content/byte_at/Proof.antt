@@ -1,13 +1,10 @@
 -- `byte_at` reads the byte where it stands: at its own index, or at its place among real time.
-use mathlib.Core.Path.{_≡_, sym, ap, _∙_}
+use mathlib.Core.Path.{sym, ap, _∙_}
 use mathlib.Core.List.{List}
 use Prim.Native.Nat.{ℕ}
 use native.Mathlib.Omega.{arith}
 use lib.ListN.{length, getD}
 use borrow.Author.Needs.{needs}
-use borrow.Author.Tests.{eq-eqb, ne-eqb}
-use Rattle.streams.specs.Bytes.{withoutRealTime}
-use Rattle.judging.specs.code.Content.{contentBy}
 use Rattle.judging.proofs.Places.{stands-byte, content-whole, content-left}
 use Rattle.judging.proofs.content.byte_at.Statement.{statement}
 use Rattle.judging.proofs.content.byte_at.Tie as tie

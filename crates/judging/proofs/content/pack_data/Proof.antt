@@ -1,6 +1,6 @@
 -- `pack_data` packs the data where they stand, or gathers them from among real time.
-use mathlib.Core.Path.{_≡_, refl, ap, _∙_}
-use Prim.Native.Nat.{ℕ, _+_, _-_, _*_}
+use mathlib.Core.Path.{_≡_, refl, ap}
+use Prim.Native.Nat.{_+_, _-_, _*_}
 use native.Mathlib.Omega.{arith}
 use lib.ListN.{length}
 use borrow.Author.Needs.{needs}
@@ -35,7 +35,8 @@ packed p f refused done =
     let whole = content-whole (start .args .count) b (p .before .before .before .if1 .left) in
     let m : 4 + 2 * n - 4 ≡ 2 * n = omega arith in
     let long = sent-length n b (omega (arith, start .pre, ap length whole)) in
-    rw whole (packed-told (sentIn n b) (start .args .packed .now) (p .pack-into .last .1 .0) (p .pack-into .result) long (rw m at (p .pack-into .ensures)) f refused done)
+    let gave = rw m at (p .pack-into .ensures) in
+    rw whole (packed-told (sentIn n b) (start .args .packed .now) (p .pack-into .last .1 .0) (p .pack-into .result) long gave f refused done)
 
 returns-2 : tie.Need-returns-2
 returns-2 c = packed (c .before .before .before .before) _ (λ _. refl) (λ z. absurd (c .if2 .taken z))

@@ -7,7 +7,6 @@ use lib.ListN.{length, take, replicate}
 use lib.Seq.{length-take-le}
 use borrow.Author.Needs.{needs}
 use Rattle.messages.specs.declared.kinds.Packed.the-variants.{Patch as aPatch}
-use Rattle.messages.specs.Kinds.{sizeOf}
 use Rattle.judging.proofs.Places.{content-whole}
 use Rattle.judging.proofs.dumps.check_packed.Statement.{statement}
 use Rattle.judging.proofs.dumps.check_packed.Tie as tie

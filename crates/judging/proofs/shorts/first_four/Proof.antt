@@ -1,5 +1,4 @@
 -- `first_four` has each byte in its place.
-use mathlib.Core.Path.{_≡_}
 use lib.Seq.{getD-drop}
 use borrow.Author.Needs.{needs}
 use Rattle.judging.specs.code.Content.{contentBy}
@@ -13,7 +12,8 @@ returns c =
     let first = second .before in
     let a = first .before .before .args in
     let content = contentBy (a .count) (a .body .now) in
-    rw (getD-drop 3 content 0 0, getD-drop 3 content 1 0, getD-drop 3 content 2 0, getD-drop 3 content 3 0, first .byte-or-zero .ensures, second .byte-or-zero2 .ensures, third .byte-or-zero3 .ensures, c .byte-or-zero4 .ensures)
+    rw (getD-drop 3 content 0 0, getD-drop 3 content 1 0, getD-drop 3 content 2 0, getD-drop 3 content 3 0)
+    (rw (first .byte-or-zero .ensures, second .byte-or-zero2 .ensures, third .byte-or-zero3 .ensures, c .byte-or-zero4 .ensures))
 
 pub first-four-spec : {M : Type 1} → statement M
 first-four-spec =

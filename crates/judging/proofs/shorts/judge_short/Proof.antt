@@ -61,7 +61,7 @@ abbrev rows : (f : tie.After-first-four)
     → Judging (ofShort (kind f)) (content f) (operandRows (kind f .operands) (drop 3 (content f))) (four (drop 3 (content f)))
 rows f = of-short (kind f) (f .before .before .before .before .pre .0) (content f)
 
-answered : (t : tie.After-test-operands) → t .test-operands .result ≡ tested (operandRows (kind (t .before .before) .operands) (drop 3 (content (t .before .before))))
+answered : (t : tie.After-test-operands) → let f = t .before .before in t .test-operands .result ≡ tested (operandRows (kind f .operands) (drop 3 (content f)))
 answered t =
     let f = t .before .before in
     rw (front f, eq-eqb (length (drop 3 (content f))) (countOf (kind f .operands)) (counted f)) at (t .test-operands .ensures)
