@@ -43,16 +43,19 @@ fn block_starts(bytes: &[u8], at: usize) -> bool
     found == 1
 }
 
-// How far blocks of 16 without an F0H reach from the start.
+// How far blocks of 16 without an F0H reach from the start, two in each turn.
 fn skip_blocks(rest: &[u8]) -> usize
     ensures { λ r. ⌜ Ahead (now (rest .entry)) r ⌝ }
 {
     let mut i: usize = 0;
-    while i + 16 <= rest.len() {
+    while i + 32 <= rest.len() {
         if block_starts(rest, i) {
             return i;
         }
-        i += 16;
+        if block_starts(rest, i + 16) {
+            return i + 16;
+        }
+        i += 32;
     }
     i
 }

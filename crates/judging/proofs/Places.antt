@@ -14,7 +14,7 @@ use Rattle.frames.specs.code.Extent.{pastRealTime}
 use Rattle.frames.proofs.RealTime.{past-next}
 use Rattle.judging.specs.code.Content.{contentBy, CountsContent, StandsAt, sentIn}
 
-pub without-within : (b : List ℕ) → length (withoutRealTime b) ≤ length b
+without-within : (b : List ℕ) → length (withoutRealTime b) ≤ length b
 unfolding withoutRealTime
 without-within [] = omega arith
 without-within (x ∷ b) = by-test (isRealTime (byteKind x)) (without-within b)

@@ -21,8 +21,8 @@ pub(crate) fn count_content(body: &[u8], noise: usize) -> usize
     frames::count_without_real_time(body)
 }
 
-// Where a byte of the content stands among real time. The callers have seen that there is one.
-pub(crate) fn place_of(body: &[u8], i: usize) -> usize
+// Where a byte of the content stands among real time. The callers below have seen that there is one.
+fn place_of(body: &[u8], i: usize) -> usize
     requires { ⌜ i < length (withoutRealTime (now body)) ⌝ }
     ensures { λ r. ⌜ StandsAt (now (body .entry)) i r ⌝ }
 {
@@ -46,9 +46,9 @@ pub(crate) fn byte_at(body: &[u8], count: usize, i: usize) -> u8
     body[place_of(body, i)]
 }
 
-// A dump's data, packed from among real time: the first byte above 15, or the packed bytes. The callers have seen that a byte stands
+// A dump's data, packed from among real time: the first byte above 15, or the packed bytes. The caller below has seen that a byte stands
 // behind them.
-pub(crate) fn gather(body: &[u8], packed: &mut [u8]) -> Failed
+fn gather(body: &[u8], packed: &mut [u8]) -> Failed
     requires { ⌜ 4 + 2 * length (now packed) < length (withoutRealTime (now body)) ⌝ }
     ensures { λ r. ⌜ Gathers (sentIn (length (now (packed .entry))) (withoutRealTime (now (body .entry)))) (now (packed .exit)) r ⌝ }
 {
@@ -71,7 +71,7 @@ pub(crate) fn gather(body: &[u8], packed: &mut [u8]) -> Failed
     Failed::Nowhere
 }
 
-// A dump's data, packed: the first byte above 15, or the packed bytes. The caller has counted the content, and seen that it has a byte
+// A dump's data, packed: the first byte above 15, or the packed bytes. The callers have counted the content, and seen that it has a byte
 // behind them.
 pub(crate) fn pack_data(body: &[u8], count: usize, packed: &mut [u8]) -> Failed
     requires { ⌜ (count ≡ length (contentBy count (now body))) × (4 + 2 * length (now packed) < count) ⌝ }

@@ -3,8 +3,7 @@ use crate::Judged;
 use crate::accepted;
 use crate::content::FRONT;
 use crate::content::byte_at;
-use crate::content::gather;
-use crate::content::place_of;
+use crate::content::pack_data;
 use crate::refused;
 use crate::refused_by;
 use answers::DONE;
@@ -27,7 +26,7 @@ ghost use lib.Dec.{T};
 ghost use lib.ListN.{length, getD};
 ghost use Rattle.answers.specs.Effect.{tested};
 ghost use Rattle.fields.specs.Fields.{size};
-ghost use Rattle.streams.specs.Bytes.{framed, withoutRealTime};
+ghost use Rattle.streams.specs.Bytes.{framed};
 ghost use Rattle.messages.specs.declared.kinds.Kind.the-variants.{Dump as ofDump};
 ghost use Rattle.messages.specs.declared.kinds.Packed.the-variants.{Patch as aPatch};
 ghost use Rattle.messages.specs.Kinds.{sizeOf, master};
@@ -40,7 +39,7 @@ ghost use Rattle.judging.specs.code.Judged.{kindVerdict, judged, Checked
 const PATCH_SENT: usize = FRONT + 2 * PATCH;
 
 // The data bytes of a dump and the sum behind them: 9, 10. The packed bytes are left in `packed`, which fits them; so below.
-// The callers of these three have seen the length.
+// The caller has seen the length.
 fn check_sent(sent: &[u8], sum: u8, packed: &mut [u8]) -> Outcome
     requires { ⌜ length (now sent) ≡ 2 * length (now packed) ⌝ }
     ensures { λ r. ⌜ Checked (now (sent .entry)) sum (now (packed .exit)) r ⌝ }
@@ -55,32 +54,19 @@ fn check_sent(sent: &[u8], sum: u8, packed: &mut [u8]) -> Outcome
     answers::done(0)
 }
 
-// The same from among real time.
-fn check_noisy(body: &[u8], packed: &mut [u8]) -> Outcome
-    requires { ⌜ 4 + 2 * length (now packed) < length (withoutRealTime (now body)) ⌝ }
-    ensures { λ r. ⌜ CheckedIn (length (now (packed .entry))) (withoutRealTime (now (body .entry))) (now (packed .exit)) r ⌝ }
-{
-    let wide = gather(body, packed);
-    if let Failed::At(i) = wide {
-        return answers::refused(WIDE_DATA, i);
-    }
-    let at = place_of(body, FRONT + 2 * packed.len());
-    if nibbles::checksum(packed) != body[at] {
-        return answers::refused(WRONG_SUM, 0);
-    }
-    answers::done(0)
-}
-
-// The same from the content.
+// The same from the content, wherever its bytes stand.
 fn check_data(body: &[u8], count: usize, packed: &mut [u8]) -> Outcome
     requires { ⌜ (count ≡ length (contentBy count (now body))) × (4 + 2 * length (now packed) < count) ⌝ }
     ensures { λ r. ⌜ CheckedIn (length (now (packed .entry))) (contentBy count (now (body .entry))) (now (packed .exit)) r ⌝ }
 {
-    if count != body.len() {
-        return check_noisy(body, packed);
+    let wide = pack_data(body, count, packed);
+    if let Failed::At(i) = wide {
+        return answers::refused(WIDE_DATA, i);
     }
-    let end = FRONT + 2 * packed.len();
-    check_sent(&body[FRONT..end], body[end], packed)
+    if nibbles::checksum(packed) != byte_at(body, count, FRONT + 2 * packed.len()) {
+        return answers::refused(WRONG_SUM, 0);
+    }
+    answers::done(0)
 }
 
 // The tests of packed bytes themselves: 7 for another count of them, then their own 11 and 12.

@@ -1,5 +1,6 @@
 -- `skip_blocks` passes block after block that has no F0H: behind each, what is left to count starts there.
-use Prim.Native.Nat.{_-_}
+use mathlib.Core.Path.{_≡_}
+use Prim.Native.Nat.{_+_, _-_}
 use native.Mathlib.Omega.{arith}
 use lib.ListN.{length}
 use Rattle.frames.specs.code.Blocks.{Ahead}
@@ -19,14 +20,26 @@ loop-holds c = ahead-none (c .before .args .rest .now)
 returns : tie.Need-returns Inv-loop μ-loop
 returns c = c .before .before .before .loop .inv
 
-loop-again : tie.Need-loop-again Inv-loop μ-loop
-loop-again c =
-    let at = c .before .before .before in
-    let a = at .before .before .args in
-    ahead-more (a .rest .now) (at .loop .i) (c .before .before .loop-test .taken) (at .loop .inv) (c .before .block-starts .ensures (c .if1 .left))
+-- Behind the first block of a turn.
+halfway : (e : tie.Else1 Inv-loop μ-loop) → let at = e .before .before .before in Ahead (at .before .before .args .rest .now) (at .loop .i + 16)
+halfway e =
+    let at = e .before .before .before in
+    ahead-more (at .before .before .args .rest .now) (at .loop .i) (omega (arith, e .before .before .loop-test .taken)) (at .loop .inv)
+    (e .before .block-starts .ensures (e .if1 .left))
 
 returns-2 : tie.Need-returns-2 Inv-loop μ-loop
-returns-2 c = c .before .loop .inv
+returns-2 c = halfway (c .before .before)
+
+loop-again : tie.Need-loop-again Inv-loop μ-loop
+loop-again c =
+    let e = c .before .before in
+    let at = e .before .before .before in
+    let twice : at .loop .i + 16 + 16 ≡ at .loop .i + 32 = omega arith in
+    rw twice at (ahead-more (at .before .before .args .rest .now) (at .loop .i + 16) (omega (arith, e .before .before .loop-test .taken)) (halfway e)
+    (c .before .block-starts2 .ensures (c .if2 .left)))
+
+returns-3 : tie.Need-returns-3 Inv-loop μ-loop
+returns-3 c = c .before .loop .inv
 
 pub skip-blocks-spec : {M : Type 1} → statement M
 skip-blocks-spec =
@@ -39,6 +52,10 @@ skip-blocks-spec =
     (λ c κs. omega arith)
     returns
     (λ c. omega arith)
+    (λ c κs. omega arith)
+    (λ c. omega arith)
+    returns-2
+    (λ c. omega arith)
     (λ c. omega arith)
     loop-again
-    returns-2)
+    returns-3)

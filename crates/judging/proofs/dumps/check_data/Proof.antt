@@ -1,45 +1,68 @@
--- `check_data` checks the data where they stand, or gathers them from among real time.
-use mathlib.Core.Path.{_≡_, ap}
-use Prim.Native.Nat.{_+_, _-_, _*_}
-use native.Mathlib.Omega.{arith}
+-- `check_data` packs, then compares the sum: each return is a case of the rows of a dump's data.
+use mathlib.Core.Path.{_≡_, sym, _∙_}
 use lib.ListN.{length}
 use borrow.Author.Needs.{needs}
-use Rattle.judging.proofs.Places.{content-whole, content-left}
+use Rattle.judging.specs.code.Content.{contentBy, sentIn, sumIn}
+use Rattle.judging.proofs.Data.{check-wide, check-sum, check-done}
 use Rattle.judging.proofs.dumps.check_data.Statement.{statement}
 use Rattle.judging.proofs.dumps.check_data.Tie as tie
 
-check-noisy-requires : tie.Need-check-noisy-requires
-check-noisy-requires c κs =
-    let start = c .before .before .before .before in
-    let left = ap length (content-left (start .args .count) (start .args .body .now) (c .before .if1 .taken)) in
-    omega (arith, start .pre, left)
-
 returns : tie.Need-returns
 returns c =
-    let g = c .before .before in
-    let a = g .before .before .before .before .before .args in
-    rw (content-left (a .count) (a .body .now) (g .before .before .if1 .taken)) (g .check-noisy .ensures)
+    let at = c .before .before .before .before .before .before in
+    let a = at .before .before .before .before .args in
+    let n = length (a .packed .now) in
+    let content = contentBy (a .count) (a .body .now) in
+    let told = c .before .before in
+    check-wide (sentIn n content) (sumIn n content) (at .pack-data .last .1 .1 .0) (at .pack-data .result) (at .pack-data .ensures)
+    (c .refused .result) (told .wide .given .0 .0) (told .wide .given .1) (c .refused .ensures)
+
+-- The byte that the sum is compared with is the one behind the data.
+sum-read : (read : tie.After-byte-at) → let a = read .before .before .before .before .before .before .before .before .before .before .before .args in
+    read .byte-at .result ≡ sumIn (length (a .packed .now)) (contentBy (a .count) (a .body .now))
+sum-read read =
+    let at = read .before .before .before .before .before .before .before in
+    rw (at .pack-data .kept .1 .1 .0) at (read .byte-at .ensures)
 
 returns-2 : tie.Need-returns-2
 returns-2 c =
-    let g = c .before .before in
-    let a = g .before .before .before .before .before .before .before .args in
-    let m : 4 + 2 * length (a .packed .now) - 4 ≡ 2 * length (a .packed .now) = omega arith in
-    rw (content-whole (a .count) (a .body .now) (g .before .before .before .before .if1 .left)) (rw m at (g .check-sent .ensures))
+    let read = c .before .before in
+    let at = read .before .before .before .before .before .before .before in
+    let a = at .before .before .before .before .args in
+    let n = length (a .packed .now) in
+    let content = contentBy (a .count) (a .body .now) in
+    check-sum (sentIn n content) (sumIn n content) (at .pack-data .last .1 .1 .0) (at .pack-data .result) (at .pack-data .ensures)
+    (c .refused2 .result) (read .before .checksum .result) (read .before .before .before .enum-told .given .1) (read .before .checksum .ensures)
+    (λ e. c .before .if1 .taken (e ∙ sym (sum-read read))) (c .refused2 .ensures)
+
+returns-3 : tie.Need-returns-3
+returns-3 c =
+    let read = c .before .before in
+    let at = read .before .before .before .before .before .before .before in
+    let a = at .before .before .before .before .args in
+    let n = length (a .packed .now) in
+    let content = contentBy (a .count) (a .body .now) in
+    check-done (sentIn n content) (sumIn n content) (at .pack-data .last .1 .1 .0) (at .pack-data .result) (at .pack-data .ensures)
+    (c .done .result) (read .before .checksum .result) (read .before .before .before .enum-told .given .1) (read .before .checksum .ensures)
+    (c .before .if1 .left ∙ sum-read read) (c .done .ensures)
 
 pub check-data-spec : {M : Type 1} → statement M
 check-data-spec =
     tie.close
     (tie.spec
-    check-noisy-requires
-    (λ c. search needs)
-    returns
-    (λ c. search needs)
-    (λ c. search needs)
-    (λ c. search needs)
-    (λ c. search needs)
-    (λ c. search needs)
+    (λ c κs. search needs)
     (λ c. search needs)
     (λ c κs. search needs)
     (λ c. search needs)
-    returns-2)
+    returns
+    (λ c. search needs)
+    (λ c κs. search needs)
+    (λ c. search needs)
+    (λ c. search needs)
+    (λ c κs. search needs)
+    (λ c κs. search needs)
+    (λ c. search needs)
+    returns-2
+    (λ c κs. search needs)
+    (λ c. search needs)
+    returns-3)
