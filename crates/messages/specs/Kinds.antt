@@ -19,7 +19,7 @@ pub use Rattle.messages.specs.declared.kinds.Short.{Short}
 pub use Rattle.messages.specs.declared.kinds.Kind.{Kind}
 pub use Rattle.messages.specs.declared.kinds.Kind.the-variants.{Dump as ofDump, Short as ofShort, Unknown as unknown}
 
--- Every message of ours has these behind its F0H: Oberheim, and Matrix-6R or Matrix-1000.
+-- Every message of ours has these behind its F0H: Oberheim, and Matrix-6, Matrix-6R or Matrix-1000.
 abbrev pub maker : ℕ
 maker = 0x10
 
