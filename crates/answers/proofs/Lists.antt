@@ -57,6 +57,12 @@ module _ {ℓ} {A : Type ℓ} (P : A → Type 0) where
   all-right [] v a = a
   all-right (x ∷ u) v a = all-right u v (a .1)
 
+  -- It holds of the first n.
+  pub all-take : (n : ℕ) (u : List A) → All P u → All P (take n u)
+  all-take zero u a = tt
+  all-take (suc n) [] a = tt
+  all-take (suc n) (x ∷ u) a = (a .0, all-take n u (a .1))
+
   -- It holds of the element between u and v.
   pub all-at : (u : List A) (x : A) (v : List A) → All P (u ++ x ∷ v) → P x
   all-at [] x v a = a .0

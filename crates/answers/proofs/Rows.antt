@@ -178,3 +178,26 @@ decides rows detail b p o a e = record {
     by-answer : (v : Verdict) (r : Outcome) → (r .answer ≡ 0 → ⊥) → outcomeOf v ≡ r → v ≡ refused r
     by-answer (done d b p) r n q = absurd (n (sym (ap (λ (x : Outcome). x .answer) q)))
     by-answer (refused x) r n q = ap refused q
+
+-- Rows that never give a number: they turn no verdict behind them into it.
+abbrev pub Never : ℕ → List Row → Type 0
+Never n rows = (v : Verdict) → (answerOf v ≡ n → ⊥) → answerOf (first rows v) ≡ n → ⊥
+
+-- Rows of other numbers never give it.
+pub never-numbered : (n : ℕ) (rows : List Row) → All (λ (r : Row). numberOf r ≡ n → ⊥) rows → Never n rows
+never-numbered n [] a v h e = h e
+never-numbered n (r ∷ rows) a v h e = go (heard r) (never-numbered n rows (a .1) v h)
+  where
+    go : Heard r → (answerOf (first rows v) ≡ n → ⊥) → ⊥
+    go (nothing q) i = i (rw q at e)
+    go (something o q) i = let z : o .answer ≡ n = rw q at e in a .0 (said-number r o q ∙ z)
+
+-- Nor do two lists of rows of which neither does.
+pub never-append : (n : ℕ) (rows more : List Row) → Never n rows → Never n more → Never n (rows ++ more)
+never-append n rows more a b v h e = a (first more v) (b v h) (rw (first-append rows more v) at e)
+
+-- An outcome that such rows decide has another number, if the number is a refusal's.
+pub never-decides : (n : ℕ) (rows : List Row) (detail : ℕ) (o : Outcome) → Never n rows → (n ≡ 0 → ⊥) → Decides rows detail o → o .answer ≡ n → ⊥
+never-decides n rows detail o a h d e =
+    let said = d .refuses o (λ z. h (sym e ∙ z)) .0 refl in
+    a (done 0 [] []) (λ z. h (sym z)) (ap answerOf (given-first rows (done 0 [] []) o said) ∙ e)

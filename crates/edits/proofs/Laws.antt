@@ -6,10 +6,10 @@ use mathlib.Core.List.{List, [], _∷_, _++_}
 use mathlib.Core.Option.{Option, none, some}
 use Prim.Native.Nat.{ℕ, suc, _+_, _*_, _≤_, _<_}
 use native.Mathlib.Omega.{arith}
-use lib.Dec.{eqb, ltb}
+use lib.Dec.{eqb}
 use lib.ListN.{length, getD, set, length-set}
 use lib.Seq.{getD-set-same, getD-set-other}
-use borrow.Author.Tests.{lt-ltb, le-ltb, le-leb, lt-leb, ltb-true, ltb-false, eqb-true, eqb-false}
+use borrow.Author.Tests.{eqb-true, eqb-false}
 use Rattle.answers.specs.declared.Outcome.{Outcome}
 use Rattle.answers.specs.Table.{Row, done, first, outcome}
 use Rattle.answers.specs.Effect.{Effect, changed, tested}
@@ -17,7 +17,7 @@ use Rattle.answers.proofs.Lists.{all-append}
 use Rattle.answers.proofs.Rows.{Refusals, numberOf, first-passed, done-passed, silent-parts}
 use Rattle.answers.proofs.Effects.{changed-silent}
 use Rattle.answers.specs.promises.Decides.{Silent}
-use Rattle.ranges.specs.Ranges.{between, inRow, outFrom}
+use Rattle.ranges.specs.Ranges.{outFrom}
 use Rattle.ranges.proofs.Runs.{one-in, out-set}
 use Rattle.fields.specs.Fields.{fields, inRange, placeOf}
 use Rattle.patch.specs.Patch.{firstOut, halfUsed, patchRows}
@@ -27,31 +27,6 @@ use Rattle.patch.proofs.Accepted.{Whole, each-whole, patch-accepted}
 use Rattle.edits.specs.Edits.{extended, storedFor, editRows, busRows, withByte, withBus, applying, applyingBus}
 use Rattle.edits.specs.promises.Done.{EditDone, BusDone}
 use Rattle.edits.proofs.Tests.{rows-at, rows-nowhere, edit-refusals, bus-refusals, value-inside, bus-number, bus-amount, bus-bytes, bus-whole}
-
--- Below 64 a value stays as it is.
-pub extended-low : (v : ℕ) → v < 64 → extended v ≡ v
-unfolding extended
-extended-low v h = simp (lt-ltb v 64 h)
-
--- From 64 on it is 128 higher.
-pub extended-high : (v : ℕ) → 64 ≤ v → extended v ≡ v + 128
-unfolding extended
-extended-high v h = simp (le-ltb v 64 h)
-
--- An extended amount always lies in the range of an amount: behind 8, the test for 14 never holds.
-pub amount-inside : (a : ℕ) → a ≤ 127 → inRange 105 (extended a) ≡ true
-unfolding inRow fields between
-amount-inside a h = go (ltb a 64) refl
-  where
-    go : (t : Bool) → ltb a 64 ≡ t → inRange 105 (extended a) ≡ true
-    go true q =
-        let l = ltb-true a 64 q in
-        let e = extended-low a l in
-        rw e (simp (lt-ltb a 256 (omega arith), lt-leb 192 a (omega arith), le-leb a 63 (omega arith)))
-    go false q =
-        let l = ltb-false a 64 q in
-        let e = extended-high a l in
-        rw e (simp (lt-ltb (a + 128) 256 (omega arith), le-leb 192 (a + 128) (omega arith)))
 
 -- Rows of refusals and the patch's behind them that change a patch with answer 0 come to `done`.
 answered-done : (rows : List Row) (new p : List ℕ) → Refusals rows → changed 0 new p (first (rows ++ patchRows p) (done 0 [] [])) .result .answer ≡ 0

@@ -81,7 +81,8 @@ pub value-inside : (k n v : ℕ) → Silent (valueRows k n v) → inRange k (sto
 unfolding valueRows
 value-inside k n v a = accepted k (storedFor n v) (row-at-silent 11 (outAt (some k) (storedFor n v)) (a .1 .0))
 
-neither : (s t : Bool) → (s || t) ≡ false → (s ≡ false) × (t ≡ false)
+-- Neither of two tests holds where one of them would be enough.
+pub neither : (s t : Bool) → (s || t) ≡ false → (s ≡ false) × (t ≡ false)
 neither true t e = let z : _≡_ {A = ℕ} 0 1 = cc in absurd (omega arith)
 neither false t e = (refl, e)
 

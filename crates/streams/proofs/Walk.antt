@@ -200,7 +200,8 @@ module _ (judge : List ℕ → Verdict) where
   unfolding reports
   reports-scan s = reportsFrom-scan s (length s) 0 (omega arith)
 
-  reread-from : (s : List ℕ) (n p : ℕ) → All (λ r. walk judge s (r .start) ≡ some r) (reportsFrom judge n s p)
+  -- The walk from the start of each report gives that report.
+  pub reread-from : (s : List ℕ) (n p : ℕ) → All (λ r. walk judge s (r .start) ≡ some r) (reportsFrom judge n s p)
   unfolding walk
   reread-from s zero p = tt
   reread-from s (suc n) p = by-walk (walked (drop p s) p) (reread-from s n)
@@ -211,7 +212,6 @@ module _ (judge : List ℕ → Verdict) where
       by-walk (message r e q) i =
           rw (e, reportsFrom) (ap (walk judge s) (q .starts) ∙ rw (← (drop-drop (q .skipped) p s)) (q .again), i (r .end))
 
-  -- The walk from the start of each report gives that report.
   pub reread : (s : List ℕ) → All (λ r. walk judge s (r .start) ≡ some r) (reports judge s)
   unfolding reports
   reread s = reread-from s (length s) 0

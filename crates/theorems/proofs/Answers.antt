@@ -21,8 +21,8 @@ use Rattle.answers.proofs.Rows.{passed-over, done-passed, given-first, first-gi
 use Rattle.answers.proofs.Effects.{changed-decides, changed-keeps, written-decides, written-keeps}
 use Rattle.answers.specs.promises.Decides.{Decides, Keeps, Silent}
 use Rattle.streams.specs.Bytes.{body}
-use Rattle.streams.specs.Stream.{Report, Reading, packedIn, readInto, readReport, messageAt, firstFrom, walk, read, reports}
-use Rattle.streams.proofs.Walk.{reread}
+use Rattle.streams.specs.Stream.{Report, Reading, packedIn, readInto, readReport, messageAt, firstFrom, walk, read, reportsFrom}
+use Rattle.streams.proofs.Walk.{reread-from}
 use Rattle.streams.proofs.Lent.{reading-keeps}
 use Rattle.nibbles.specs.Nibbles.{nibbles, pack, nibbleRows, packing, unpacking}
 use Rattle.patch.specs.Patch.{fieldRows, patchRows}
@@ -417,13 +417,13 @@ demand-1 = record {
   walk = λ s place.
       let l = found s place in
       decides-by (walkRows l) (recordIn l) _ (record-made l) (walk-refusals l) (walk-outcome s place);
-  reports-each = λ s.
+  reports-each = λ s place.
       all-weaken (λ r. walk judge s (r .start) ≡ some r)
       (λ r. let l = found s (r .start) in Decides (walkRows l) (opcodeIn l) (outcomeOf (r .verdict)))
       (λ r e. let l = found s (r .start) in
       decides-by (walkRows l) (recordIn l) _ (record-made l) (walk-refusals l)
       (sym (ap (λ (o : Option Report). reportOr (length s) o .outcome) e) ∙ walk-outcome s (r .start)))
-      (reports judge s) (reread judge s);
+      (reportsFrom judge (length s) s place) (reread-from judge s (length s) place);
   nowhere = not-found;
   read = read-answered;
   read-where = read-there;

@@ -14,7 +14,7 @@ use Rattle.answers.specs.Table.{Row, row, Verdict, outcome, outcomeOf, four}
 use Rattle.answers.specs.Effect.{tested}
 use Rattle.answers.specs.promises.Decides.{Decides, Keeps}
 use Rattle.streams.specs.Bytes.{body, withoutRealTime, framed}
-use Rattle.streams.specs.Stream.{packedIn, reports}
+use Rattle.streams.specs.Stream.{packedIn, reportsFrom}
 use Rattle.nibbles.specs.Nibbles.{nibbles, pack, nibbleRows, packing, unpacking}
 use Rattle.ranges.specs.Ranges.{Table, countedRows}
 use Rattle.fields.specs.Fields.{size}
@@ -105,8 +105,9 @@ pub record Demand1 : Type 0 where
   pub walk : (s : List ℕ) (place : ℕ) → let l = found s place in Decides (walkRows l) (opcodeIn l) (walked s place .outcome)
   -- where there is no F0H, start and end are the input's length
   pub nowhere : (s : List ℕ) (place : ℕ) → found s place ≡ [] → (walked s place .start ≡ length s) × (walked s place .end ≡ length s)
-  -- each report of a stream answers as the walk from its start
-  pub reports-each : (s : List ℕ) → All (λ r. let l = found s (r .start) in Decides (walkRows l) (opcodeIn l) (outcomeOf (r .verdict))) (reports judge s)
+  -- each report of a stream, from any place on, answers as the walk from its start
+  pub reports-each : (s : List ℕ) (place : ℕ)
+      → All (λ r. let l = found s (r .start) in Decides (walkRows l) (opcodeIn l) (outcomeOf (r .verdict))) (reportsFrom judge (length s) s place)
   pub read : (s : List ℕ) (place : ℕ) (lent : List ℕ)
       → let l = found s place in
       let n = length (packedIn (recordIn l)) in
