@@ -23,7 +23,7 @@
 extern "C" {
 #endif
 
-/* The answers: those of the printed card. */
+/* The answers: those of the printed card. 14 is withdrawn. */
 enum matrix_answer {
     MATRIX_DONE = 0,
     MATRIX_NO_MESSAGE = 1,    /* no F0H at or after the place */
@@ -39,8 +39,7 @@ enum matrix_answer {
     MATRIX_WRONG_SUM = 10,    /* the sum byte differs from the computed sum */
     MATRIX_OUT_OF_RANGE = 11, /* a field out of range; detail: the lowest such byte place */
     MATRIX_HALF_USED = 12,    /* a bus half used; detail: the lowest such bus */
-    MATRIX_NO_ROOM = 13,      /* the lent output is too short */
-    MATRIX_WRONG_AMOUNT = 14  /* an amount outside -64..63 after extension */
+    MATRIX_NO_ROOM = 13       /* the lent output is too short */
 };
 
 /* The opcodes: the detail of a message that is read with answer 0. */
@@ -107,8 +106,8 @@ typedef struct matrix_listed {
  * FFH, may stand anywhere inside a message: they are dropped before its bytes are looked at, counted
  * or indexed, but start and end are places of the input with them. A message ends behind its F7H; one
  * that is cut (2), at s_len; one that is interrupted (3), at the status byte that interrupts it.
- * Answers: 1 (start and end are then s_len; so for a place past the end), 2, 3, 4, 5, 6, 7, 8, 14, 9,
- * 10, 11, 12, in this order; 0 with the opcode as detail. */
+ * Answers: 1 (start and end are then s_len; so for a place past the end), 2, 3, 4, 5, 6, 7, 8, 9, 10,
+ * 11, 12, in this order; 0 with the opcode as detail. */
 matrix_report matrix_walk(const uint8_t *s, size_t s_len, size_t place);
 
 /* Reads the record of the first message of the input `s` that starts at `place` or later.
@@ -153,7 +152,7 @@ matrix_outcome matrix_apply_edit(uint8_t *p, size_t p_len, uint8_t parameter, ui
 
 /* Applies a matrix modulation edit to a patch: a bus, 0 to 9, its source, 0 to 20, seven bits of
  * amount, and its destination, 0 to 32.
- * Answers: 8, 14, 11 and 12 for the edit, then 7, 11 and 12 for the patch as it was; 0.
+ * Answers: 8, 11 and 12 for the edit, then 7, 11 and 12 for the patch as it was; 0.
  * Written: the three bytes of the bus with answer 0. */
 matrix_outcome matrix_apply_bus_edit(uint8_t *p, size_t p_len,
                                      uint8_t bus, uint8_t source, uint8_t amount, uint8_t destination);
@@ -180,7 +179,7 @@ matrix_outcome matrix_write_master(const uint8_t *m, size_t m_len, uint8_t *out,
 matrix_outcome matrix_write_edit(uint8_t parameter, uint8_t value, uint8_t *out, size_t out_len);
 
 /* Writes a matrix modulation edit (0BH).
- * Answers: 8, 14, 11, 12, 13; 0 with detail 9.
+ * Answers: 8, 11, 12, 13; 0 with detail 9.
  * Written: the first 9 bytes of the output with answer 0. */
 matrix_outcome matrix_write_bus_edit(uint8_t bus, uint8_t source, uint8_t amount, uint8_t destination,
                                      uint8_t *out, size_t out_len);

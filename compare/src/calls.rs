@@ -253,6 +253,31 @@ pub fn every_bus_edit(random: &mut Random, number: usize) -> Call {
     }
 }
 
+/// The bus edit of a number below 65,536: each byte as bus with each byte as amount, on a good patch.
+pub fn every_amount(random: &mut Random, number: usize) -> Call {
+    let [_, source, _, destination] = inputs::good_bus_edit(random);
+    let [amount, bus, ..] = number.to_le_bytes();
+    Call {
+        bytes: [bus, source, amount, destination],
+        ..every_bus_edit(random, 0)
+    }
+}
+
+/// The same edit sent, between other bytes.
+pub fn every_amount_sent(random: &mut Random, number: usize) -> Call {
+    let edit = every_amount(random, number).bytes;
+    let stream = [
+        &[0x7F, 0xF0, 0x10, 0x06, 0x0B],
+        edit.as_slice(),
+        &[0xF7, 0x00],
+    ]
+    .concat();
+    Call {
+        first: Lent::new(random, &stream),
+        ..call(random)
+    }
+}
+
 /// A call with one of the 256 bytes.
 pub fn every_byte(random: &mut Random, number: usize) -> Call {
     Call {

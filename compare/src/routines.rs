@@ -249,7 +249,10 @@ const REPORTS: Routine = Routine {
 /// What the inputs are called that have real time among all their bytes.
 const NOISY: &str = ", among real time";
 
-pub static ROUTINES: [Routine; 24] = [
+/// What the bus edits are called with each byte as bus and each as amount.
+const AMOUNTS: &str = ", every bus and amount";
+
+pub static ROUTINES: [Routine; 27] = [
     WALK,
     Routine {
         inputs: NOISY,
@@ -260,6 +263,11 @@ pub static ROUTINES: [Routine; 24] = [
     Routine {
         inputs: NOISY,
         source: Source::Any(calls::read_noisy),
+        ..READ
+    },
+    Routine {
+        inputs: AMOUNTS,
+        source: Source::Every(65_536, calls::every_amount_sent),
         ..READ
     },
     REPORTS,
@@ -315,6 +323,11 @@ pub static ROUTINES: [Routine; 24] = [
         ..APPLY_BUS_EDIT
     },
     Routine {
+        inputs: AMOUNTS,
+        source: Source::Every(65_536, calls::every_amount),
+        ..APPLY_BUS_EDIT
+    },
+    Routine {
         name: "write_patch",
         inputs: "",
         source: Source::Any(calls::write_patch),
@@ -348,6 +361,11 @@ pub static ROUTINES: [Routine; 24] = [
     Routine {
         inputs: ", every bus, source and destination",
         source: Source::Every(10 * 65_536, calls::every_bus_edit),
+        ..WRITE_BUS_EDIT
+    },
+    Routine {
+        inputs: AMOUNTS,
+        source: Source::Every(65_536, calls::every_amount),
         ..WRITE_BUS_EDIT
     },
     Routine {

@@ -28,9 +28,7 @@ pub const OUT_OF_RANGE: u8 = 11;
 pub const HALF_USED: u8 = 12;
 /// The lent output is too short.
 pub const TOO_SHORT: u8 = 13;
-/// An amount outside -64..63 after extension. Seven bits extended from bit 6 never are, so no
-/// routine here gives it.
-pub const AMOUNT_OUTSIDE: u8 = 14;
+// 14 is withdrawn.
 
 /// What a routine answers.
 #[derive(Clone, Copy, Debug, PartialEq, Eq)]

@@ -72,8 +72,7 @@ pub(crate) struct BusChange {
 }
 
 impl BusChange {
-    /// The tests that reading, writing and applying share: 8, then 11, then 12. An extended amount
-    /// always lies in -64..63, so 14 never stands between.
+    /// The tests that reading, writing and applying share: 8, then 11, then 12.
     pub fn new(bus: u8, source: u8, amount: u8, destination: u8) -> Result<Self, Refusal> {
         if bus > 9 || amount > 127 {
             return Err(Refusal::plain(NOT_ALLOWED));

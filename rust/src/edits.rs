@@ -99,22 +99,17 @@ impl BusEdit {
     ///
     /// # Errors
     ///
-    /// [`Error::NotAllowed`] for another bus, [`Error::WrongAmount`] for an amount outside -64 to
-    /// 63, then [`Error::OutOfRange`] and [`Error::HalfUsed`].
+    /// [`Error::NotAllowed`] for another bus, then [`Error::OutOfRange`] with the lowest place, an
+    /// amount outside -64 to 63 included, and [`Error::HalfUsed`].
     pub fn new(number: u8, bus: Bus) -> Result<Self, Error> {
-        let sent = [
+        // Other amounts have the same seven bits; a patch holds all eight.
+        Patch::default().set_bus(number.into(), bus)?;
+        Self::from_bytes([
             number,
             bus.source,
             bus.amount.cast_unsigned() & 0x7F,
             bus.destination,
-        ];
-        let in_seven_bits = (-64..=63).contains(&bus.amount);
-        match Self::from_bytes(sent) {
-            Ok(_) | Err(Error::OutOfRange { .. } | Error::HalfUsed { .. }) if !in_seven_bits => {
-                Err(Error::WrongAmount)
-            }
-            tested => tested,
-        }
+        ])
     }
 
     /// An edit as it is sent: bus, source, seven bits of the amount, destination.

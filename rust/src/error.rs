@@ -67,8 +67,6 @@ pub enum Error {
         /// How many there is room for.
         given: usize,
     },
-    /// 14: a modulation amount lies outside -64 to 63.
-    WrongAmount,
 }
 
 /// What has a wrong length, and how many bytes were found.
@@ -126,7 +124,7 @@ pub(crate) enum Bare {
 }
 
 impl Error {
-    /// The register's number, 1 to 14.
+    /// The register's number, 1 to 13.
     #[must_use]
     pub const fn number(&self) -> u8 {
         match self {
@@ -143,7 +141,6 @@ impl Error {
             Self::OutOfRange { .. } => 11,
             Self::HalfUsed { .. } => 12,
             Self::NoRoom { .. } => 13,
-            Self::WrongAmount => 14,
         }
     }
 
@@ -180,7 +177,6 @@ impl Error {
             11 => Self::OutOfRange { place: detail },
             12 => Self::HalfUsed { bus: detail },
             13 => about(Bare::Room),
-            14 => Self::WrongAmount,
             _ => unreachable!("the register has no number {answer}"),
         })
     }
@@ -228,7 +224,6 @@ impl fmt::Display for Error {
             Self::NoRoom { needed, given } => {
                 write!(f, "the output has {given} bytes, and {needed} are needed")
             }
-            Self::WrongAmount => f.write_str("a modulation amount lies outside -64 to 63"),
         }
     }
 }

@@ -74,11 +74,17 @@ fn a_bus() {
     assert_eq!(BusEdit::new(0, half), Err(Error::HalfUsed { bus: 0 }));
     for amount in [-65, 64, 127, -128] {
         let outside = Bus { amount, ..bus };
-        assert_eq!(BusEdit::new(0, outside), Err(Error::WrongAmount));
+        let refused = Err(Error::OutOfRange { place: 105 });
+        assert_eq!(patch.set_bus(0, outside), refused);
+        assert_eq!(BusEdit::new(0, outside).map(drop), refused);
         assert_eq!(BusEdit::new(10, outside), Err(bus_10));
+        let lowest = Bus {
+            source: 21,
+            ..outside
+        };
         assert_eq!(
-            patch.set_bus(0, outside),
-            Err(Error::OutOfRange { place: 105 })
+            BusEdit::new(0, lowest),
+            Err(Error::OutOfRange { place: 104 })
         );
     }
     assert_eq!(patch.bus(0), Some(bus));

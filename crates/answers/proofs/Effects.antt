@@ -11,8 +11,7 @@ use borrow.Author.Tests.{lt-ltb, le-ltb, ltb-false}
 use Rattle.answers.specs.declared.Outcome.{Outcome}
 use Rattle.answers.specs.Table.{Row, row, Verdict, done, refused, first, outcome, outcomeOf, answerOf}
 use Rattle.answers.specs.Effect.{tested, changed, written, Gives}
-use Rattle.answers.proofs.Lists.{all-append}
-use Rattle.answers.proofs.Rows.{Refusals, numberOf, Heard, nothing, something, heard, decides}
+use Rattle.answers.proofs.Rows.{Refusals, both-refusals, Heard, nothing, something, heard, decides}
 use Rattle.answers.proofs.Rows.{first-append, first-passed, passed-over, silent-parts, zero-silent, answered-silent, row-silent, stopped, first-stopped}
 use Rattle.answers.specs.promises.Decides.{Decides, Keeps, Silent}
 
@@ -89,7 +88,7 @@ module _ (rows : List Row) (bytes out : List ℕ) where
   pub written-done : Refusals rows → written rows bytes out .result .answer ≡ 0 → Silent rows × (length bytes ≤ length out)
   written-done a e =
       let room = row 13 (ltb (length out) (length bytes)) ∷ [] in
-      let all = all-append (λ (r : Row). numberOf r ≡ 0 → ⊥) rows room a (omega arith) in
+      let all = both-refusals rows room a (omega arith) in
       let s = silent-parts rows room (changed-silent (length bytes) (bytes ++ drop (length bytes) out) out (rows ++ room) all e) in
       (s .0, ltb-false (length out) (length bytes) (row-silent 13 (ltb (length out) (length bytes)) (s .1 .0)))
 
@@ -98,7 +97,7 @@ module _ (rows : List Row) (bytes out : List ℕ) where
   andRoom = rows ++ (row 13 (ltb (length out) (length bytes)) ∷ [])
 
   room-refusals : Refusals rows → Refusals andRoom
-  room-refusals a = all-append (λ (r : Row). numberOf r ≡ 0 → ⊥) rows (row 13 (ltb (length out) (length bytes)) ∷ []) a (omega arith)
+  room-refusals a = both-refusals rows (row 13 (ltb (length out) (length bytes)) ∷ []) a (omega arith)
 
   pub written-decides : Refusals rows → Decides andRoom (length bytes) (written rows bytes out .result)
   written-decides a = changed-decides (length bytes) (bytes ++ drop (length bytes) out) out andRoom (room-refusals a)

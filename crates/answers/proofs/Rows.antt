@@ -4,15 +4,15 @@ use mathlib.Core.Path.{_≡_, refl, ap, sym, _∙_, subst}
 use mathlib.Core.Bool.{Bool, true, false, not}
 use mathlib.Core.List.{List, [], _∷_, _++_, append-nil}
 use mathlib.Core.Option.{Option, none, some}
-use Prim.Native.Nat.{ℕ}
+use Prim.Native.Nat.{ℕ, _≤_}
 use native.Mathlib.Omega.{arith}
 use lib.Dec.{eqb}
 use borrow.Author.Tests.{eqb-true, not-false}
 use Rattle.answers.specs.declared.Outcome.{Outcome}
 use Rattle.answers.specs.Lists.{All}
-use Rattle.answers.specs.Table.{Row, row, rowAt, Verdict, done, refused, unless, first, outcome, outcomeOf, answerOf, says}
+use Rattle.answers.specs.Table.{Row, row, rowAt, numberOf, Verdict, done, refused, unless, first, outcome, outcomeOf, answerOf, says}
 use Rattle.answers.specs.Effect.{tested}
-use Rattle.answers.proofs.Lists.{all-left, all-right}
+use Rattle.answers.proofs.Lists.{all-append, all-left, all-right}
 use Rattle.answers.specs.promises.Decides.{Decides, FirstSays, Silent}
 
 -- Rows after rows are tested after them.
@@ -47,6 +47,17 @@ heard (row n true) = something (outcome n 0) refl
 heard (row n false) = nothing refl
 heard (rowAt n (some d)) = something (outcome n d) refl
 heard (rowAt n none) = nothing refl
+
+-- A row that says nothing wherever the rows before it say nothing may stand there or not.
+pub needless : (before : List Row) (r : Row) (after : List Row) (v : Verdict) → (Silent before → says r ≡ none)
+    → first (before ++ r ∷ after) v ≡ first (before ++ after) v
+needless [] r after v h = rw (h tt)
+needless (x ∷ before) r after v h = go (heard x) (needless before r after v)
+  where
+    go : Heard x → ((Silent before → says r ≡ none) → first (before ++ r ∷ after) v ≡ first (before ++ after) v)
+        → first (x ∷ (before ++ r ∷ after)) v ≡ first (x ∷ (before ++ after)) v
+    go (nothing q) i = rw q (i (λ s. h (q, s)))
+    go (something o q) i = rw q
 
 -- Where the table gives a `done`, no row says anything, and it is the one that stands behind the rows.
 pub done-passed : (rows : List Row) (v : Verdict) (o : ℕ) (b p : List ℕ) → first rows v ≡ done o b p → Silent rows × (v ≡ done o b p)
@@ -90,12 +101,7 @@ row-at-silent n none e = refl
 pub row-equal : (n a b : ℕ) → says (row n (not (eqb a b))) ≡ none → a ≡ b
 row-equal n a b e = eqb-true a b (not-false (eqb a b) (row-silent n (not (eqb a b)) e))
 
--- A row's number.
-abbrev pub numberOf : Row → ℕ
-numberOf (row n h) = n
-numberOf (rowAt n o) = n
-
--- It is the answer of what the row says.
+-- A row's number is the answer of what the row says.
 said-number : (r : Row) (o : Outcome) → says r ≡ some o → numberOf r ≡ o .answer
 said-number (row n true) o e = let same : outcome n 0 ≡ o = cc in ap (λ (x : Outcome). x .answer) same
 said-number (row n false) o e = let z : _≡_ {A = ℕ} 0 1 = cc in absurd (omega arith)
@@ -115,9 +121,17 @@ first-number P (r ∷ rows) n b p o a e = go (heard r) (first-number P rows n b 
         let said : says r ≡ some o = cc in
         subst P (said-number r o said) (a .0)
 
--- Every row is numbered as a refusal: 0 is not among them.
+-- The numbers of refusals: 0 is not among them, nor is 14.
+abbrev pub IsRefusal : ℕ → Type 0
+IsRefusal n = (1 ≤ n) × (n ≤ 13)
+
+-- Every row is numbered as a refusal.
 abbrev pub Refusals : List Row → Type 0
-Refusals rows = All (λ (r : Row). numberOf r ≡ 0 → ⊥) rows
+Refusals rows = All (λ (r : Row). IsRefusal (numberOf r)) rows
+
+-- So are rows and the rows that follow.
+pub both-refusals : (rows more : List Row) → Refusals rows → Refusals more → Refusals (rows ++ more)
+both-refusals rows more a b = all-append (λ (r : Row). IsRefusal (numberOf r)) rows more a b
 
 -- Rows that give answer 0, none of them numbered 0, say nothing.
 pub zero-silent : (rows : List Row) (v : Verdict) → Refusals rows → answerOf (first rows v) ≡ 0 → Silent rows
@@ -126,7 +140,7 @@ zero-silent (r ∷ rows) v a e = go (heard r) (zero-silent rows v (a .1))
   where
     go : Heard r → (answerOf (first rows v) ≡ 0 → Silent rows) → Silent (r ∷ rows)
     go (nothing q) i = (q, i (rw q at e))
-    go (something o q) i = let z : o .answer ≡ 0 = rw q at e in absurd (a .0 (said-number r o q ∙ z))
+    go (something o q) i = let z : o .answer ≡ 0 = rw q at e in absurd (omega (arith, a .0, said-number r o q ∙ z))
 
 -- So rows that are answered 0 say nothing, and those that say nothing are answered 0 with detail 0.
 pub answered-silent : (rows : List Row) → Refusals rows → tested rows .answer ≡ 0 → Silent rows
@@ -179,25 +193,6 @@ decides rows detail b p o a e = record {
     by-answer (done d b p) r n q = absurd (n (sym (ap (λ (x : Outcome). x .answer) q)))
     by-answer (refused x) r n q = ap refused q
 
--- Rows that never give a number: they turn no verdict behind them into it.
-abbrev pub Never : ℕ → List Row → Type 0
-Never n rows = (v : Verdict) → (answerOf v ≡ n → ⊥) → answerOf (first rows v) ≡ n → ⊥
-
--- Rows of other numbers never give it.
-pub never-numbered : (n : ℕ) (rows : List Row) → All (λ (r : Row). numberOf r ≡ n → ⊥) rows → Never n rows
-never-numbered n [] a v h e = h e
-never-numbered n (r ∷ rows) a v h e = go (heard r) (never-numbered n rows (a .1) v h)
-  where
-    go : Heard r → (answerOf (first rows v) ≡ n → ⊥) → ⊥
-    go (nothing q) i = i (rw q at e)
-    go (something o q) i = let z : o .answer ≡ n = rw q at e in a .0 (said-number r o q ∙ z)
-
--- Nor do two lists of rows of which neither does.
-pub never-append : (n : ℕ) (rows more : List Row) → Never n rows → Never n more → Never n (rows ++ more)
-never-append n rows more a b v h e = a (first more v) (b v h) (rw (first-append rows more v) at e)
-
--- An outcome that such rows decide has another number, if the number is a refusal's.
-pub never-decides : (n : ℕ) (rows : List Row) (detail : ℕ) (o : Outcome) → Never n rows → (n ≡ 0 → ⊥) → Decides rows detail o → o .answer ≡ n → ⊥
-never-decides n rows detail o a h d e =
-    let said = d .refuses o (λ z. h (sym e ∙ z)) .0 refl in
-    a (done 0 [] []) (λ z. h (sym z)) (ap answerOf (given-first rows (done 0 [] []) o said) ∙ e)
+-- What they decide is done, or has a refusal's number.
+pub decides-number : (rows : List Row) (detail : ℕ) (o : Outcome) → Refusals rows → Decides rows detail o → (o .answer ≡ 0 → ⊥) → IsRefusal (o .answer)
+decides-number rows detail o a d n = first-number IsRefusal rows 0 [] [] o a (given-first rows (done 0 [] []) o (d .refuses o n .0 refl))

@@ -15,6 +15,10 @@ pub data Row : Type 0 where
   row : (number : ℕ) (holds : Bool) → Row
   rowAt : (number : ℕ) (where-met : Option ℕ) → Row
 
+abbrev pub numberOf : Row → ℕ
+numberOf (row n h) = n
+numberOf (rowAt n o) = n
+
 -- What a row says of the message at hand: its number and detail where its condition holds.
 abbrev pub says : Row → Option Outcome
 says (row n true) = some (outcome n 0)

@@ -31,7 +31,7 @@ pub const HALF_USED: u8 = 12;
 
 pub const NO_ROOM: u8 = 13;
 
-pub const WRONG_AMOUNT: u8 = 14;
+// 14 is withdrawn.
 
 // An answer and its detail.
 #[repr(C)]

@@ -13,8 +13,7 @@ use borrow.Author.Tests.{eqb-true, eqb-false}
 use Rattle.answers.specs.declared.Outcome.{Outcome}
 use Rattle.answers.specs.Table.{Row, done, first, outcome}
 use Rattle.answers.specs.Effect.{Effect, changed, tested}
-use Rattle.answers.proofs.Lists.{all-append}
-use Rattle.answers.proofs.Rows.{Refusals, numberOf, first-passed, done-passed, silent-parts}
+use Rattle.answers.proofs.Rows.{Refusals, both-refusals, first-passed, done-passed, silent-parts}
 use Rattle.answers.proofs.Effects.{changed-silent}
 use Rattle.answers.specs.promises.Decides.{Silent}
 use Rattle.ranges.specs.Ranges.{outFrom}
@@ -32,7 +31,7 @@ use Rattle.edits.proofs.Tests.{rows-at, rows-nowhere, edit-refusals, bu
 answered-done : (rows : List Row) (new p : List ℕ) → Refusals rows → changed 0 new p (first (rows ++ patchRows p) (done 0 [] [])) .result .answer ≡ 0
     → first (rows ++ patchRows p) (done 0 [] []) ≡ done 0 [] []
 answered-done rows new p a e =
-    let all = all-append (λ (r : Row). numberOf r ≡ 0 → ⊥) rows (patchRows p) a (patch-refusals p) in
+    let all = both-refusals rows (patchRows p) a (patch-refusals p) in
     first-passed (rows ++ patchRows p) (done 0 [] []) (changed-silent 0 new p (rows ++ patchRows p) all e)
 
 -- A remote edit that is answered 0 is done: no row of its own says anything, and none of the patch's.

@@ -99,12 +99,12 @@ bus-amount b s a d q = ltb-false 127 a (neither (ltb 9 b) (ltb 127 a) (row-silen
 -- No byte of its bus is out of range.
 pub bus-bytes : (b s a d : ℕ) → Silent (busRows b s a d) → outFrom fields (104 + 3 * b) (s ∷ extended a ∷ d ∷ []) ≡ none
 unfolding busRows
-bus-bytes b s a d q = row-at-silent 11 (outFrom fields (104 + 3 * b) (s ∷ extended a ∷ d ∷ [])) (q .1 .1 .0)
+bus-bytes b s a d q = row-at-silent 11 (outFrom fields (104 + 3 * b) (s ∷ extended a ∷ d ∷ [])) (q .1 .0)
 
 -- Its bus is not half used.
 pub bus-whole : (b s a d : ℕ) → Silent (busRows b s a d) → halfUsed s d ≡ false
 unfolding busRows
-bus-whole b s a d q = go (halfUsed s d) (row-at-silent 12 (cond (halfUsed s d) (some b) none) (q .1 .1 .1 .0))
+bus-whole b s a d q = go (halfUsed s d) (row-at-silent 12 (cond (halfUsed s d) (some b) none) (q .1 .1 .0))
   where
     go : (t : Bool) → cond t (some b) none ≡ none → t ≡ false
     go true e = let z : _≡_ {A = ℕ} 0 1 = cc in absurd (omega arith)

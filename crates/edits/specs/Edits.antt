@@ -1,5 +1,5 @@
 -- The two edits: their tests, which reading, writing and applying share, and what they change.
-use mathlib.Core.Bool.{Bool, true, false, cond, not, _||_}
+use mathlib.Core.Bool.{Bool, true, false, cond, _||_}
 use mathlib.Core.List.{List, [], _∷_, _++_}
 use mathlib.Core.Option.{Option, none, some}
 use Prim.Native.Nat.{ℕ, _+_}
@@ -41,11 +41,10 @@ byteRows bus source amount destination =
     rowAt 11 (outFrom fields (sourceAt bus) (source ∷ amount ∷ destination ∷ [])) ∷
     rowAt 12 (cond (halfUsed source destination) (some bus) none) ∷ []
 
--- The tests of a 0BH edit: 8, 14, 11, 12. Amounts have the same range on every bus.
+-- The tests of a 0BH edit: 8, 11, 12. 14 is withdrawn.
 unfoldable pub busRows : ℕ → ℕ → ℕ → ℕ → List Row
 busRows bus source amount destination =
     row 8 (ltb 9 bus || ltb 127 amount) ∷
-    row 14 (not (inRange (amountAt 0) (extended amount))) ∷
     byteRows bus source (extended amount) destination
 
 -- A patch with one byte changed, at the place of a parameter.

@@ -4,7 +4,6 @@ use answers::HALF_USED;
 use answers::NOT_ALLOWED;
 use answers::OUT_OF_RANGE;
 use answers::Outcome;
-use answers::WRONG_AMOUNT;
 use fields::AMOUNT_AT;
 use fields::BUS;
 use fields::BUSES;
@@ -87,7 +86,7 @@ fn test_bytes(bus: u8, source: u8, amount: u8, destination: u8) -> Outcome
     answers::done(0)
 }
 
-// The tests of a matrix modulation edit: 8, then 14, then 11 with the lowest of its places, then 12 with its bus.
+// The tests of a matrix modulation edit: 8, then 11 with the lowest of its places, then 12 with its bus.
 pub fn test_bus_edit(bus: u8, source: u8, amount: u8, destination: u8) -> Outcome
     ensures { λ r. ⌜ r ≡ tested (busRows bus source amount destination) ⌝ }
 {
@@ -97,11 +96,7 @@ pub fn test_bus_edit(bus: u8, source: u8, amount: u8, destination: u8) -> Outcom
     if 127 < amount {
         return answers::refused(NOT_ALLOWED, 0);
     }
-    let stored = extend(amount);
-    if !ranges::in_row(&BUS, 1, stored) {
-        return answers::refused(WRONG_AMOUNT, 0);
-    }
-    test_bytes(bus, source, stored, destination)
+    test_bytes(bus, source, extend(amount), destination)
 }
 
 // Applies a remote edit to a lent patch: its own 8 and 11, then the patch's 7, 11 and 12. Done, the field's byte is the value as
@@ -126,8 +121,8 @@ pub fn apply_edit(p: &mut [u8], parameter: Parameter, value: u8) -> Outcome
     answers::done(0)
 }
 
-// Applies a matrix modulation edit to a lent patch: its own 8, 14, 11 and 12, then the patch's 7, 11 and 12. Done, the three bytes
-// of the bus are the edit's, the amount extended, and every other byte keeps its value; refused, every byte does.
+// Applies a matrix modulation edit to a lent patch: its own 8, 11 and 12, then the patch's 7, 11 and 12. Done, the three bytes of the
+// bus are the edit's, the amount extended, and every other byte keeps its value; refused, every byte does.
 pub fn apply_bus_edit(p: &mut [u8], bus: u8, source: u8, amount: u8, destination: u8) -> Outcome
     ensures { λ r. ⌜ Gives (applyingBus bus source amount destination (now (p .entry))) r (now (p .exit)) ⌝ }
 {

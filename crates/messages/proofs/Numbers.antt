@@ -1,13 +1,13 @@
--- A message that is refused has one of the numbers 4 to 12 or 14, and one that is done has passed every row.
+-- A message that is refused has one of the numbers 4 to 12, and one that is done has passed every row.
 -- The numbers are read off the rows; what `first` gives is done or has the number of one of its rows.
 use mathlib.Core.Path.{_≡_, refl}
 use mathlib.Core.List.{List}
 use Prim.Native.Nat.{ℕ}
 use native.Mathlib.Omega.{arith}
 use Rattle.answers.specs.Lists.{All}
-use Rattle.answers.specs.Table.{Row, Verdict, done, refused, answerOf}
+use Rattle.answers.specs.Table.{Row, numberOf, Verdict, done, refused, answerOf}
 use Rattle.answers.proofs.Lists.{all-weaken}
-use Rattle.answers.proofs.Rows.{numberOf, Refusals, first-number, zero-silent, row-equal}
+use Rattle.answers.proofs.Rows.{Refusals, first-number, zero-silent, row-equal}
 use Rattle.nibbles.specs.Nibbles.{pack}
 use Rattle.edits.specs.Edits.{editRows, busRows}
 use Rattle.answers.specs.declared.Outcome.{Outcome}
@@ -35,25 +35,37 @@ kind-numbers (ofDump k) m =
 kind-numbers (ofShort k) m = operand-numbers (k .operands) (bytesFrom (countOf (k .operands)) 4 m)
 kind-numbers unknown m = tt
 
--- The rows of packed bytes and of a short message are refusals.
+-- So have those of what a writer is given.
+dump-given-numbers : (k : Dump) (n : ℕ) (p : List ℕ) → RowsInTable (dumpGiven k n p)
+dump-given-numbers k n p = (omega arith, (omega arith, packed-numbers (k .packed) p))
+
+given-numbers : (k : Kind) (b p : List ℕ) → RowsInTable (givenRows k b p)
+given-numbers (ofDump k) b p = dump-given-numbers k (behindFor (k .behind) b) p
+given-numbers (ofShort k) b p = (omega arith, operand-numbers (k .operands) b)
+given-numbers unknown b p = tt
+
+-- So has every row of the table.
+pub row-numbers : (m : List ℕ) → RowsInTable (messageRows m)
+row-numbers m = (omega arith, (omega arith, (omega arith, (omega arith, kind-numbers (kindOf (byteAt m 3)) m))))
+
+-- Rows with listed numbers are refusals.
+refusals : (rows : List Row) → RowsInTable rows → Refusals rows
+refusals rows a = all-weaken _ _ (λ r h. omega arith) rows a
+
 pub packed-refusals : (q : Packed) (p : List ℕ) → Refusals (packedRows q p)
-packed-refusals q p = omega arith
+packed-refusals q p = refusals (packedRows q p) (packed-numbers q p)
 
 pub operand-refusals : (o : Operands) (b : List ℕ) → Refusals (operandRows o b)
-operand-refusals o b = all-weaken _ _ (λ r h z. omega arith) (operandRows o b) (operand-numbers o b)
+operand-refusals o b = refusals (operandRows o b) (operand-numbers o b)
 
--- So are those of what a writer is given.
 pub dump-given-refusals : (k : Dump) (n : ℕ) (p : List ℕ) → Refusals (dumpGiven k n p)
-dump-given-refusals k n p = ((λ z. omega arith), ((λ z. omega arith), packed-refusals (k .packed) p))
+dump-given-refusals k n p = refusals (dumpGiven k n p) (dump-given-numbers k n p)
 
 pub given-refusals : (k : Kind) (b p : List ℕ) → Refusals (givenRows k b p)
-given-refusals (ofDump k) b p = dump-given-refusals k (behindFor (k .behind) b) p
-given-refusals (ofShort k) b p = ((λ z. omega arith), operand-refusals (k .operands) b)
-given-refusals unknown b p = tt
+given-refusals k b p = refusals (givenRows k b p) (given-numbers k b p)
 
--- Every row of the table has a listed number.
-pub row-numbers : (m : List ℕ) → All (λ r. InTable (numberOf r)) (messageRows m)
-row-numbers m = (omega arith, (omega arith, (omega arith, (omega arith, kind-numbers (kindOf (byteAt m 3)) m))))
+pub message-refusals : (m : List ℕ) → Refusals (messageRows m)
+message-refusals m = refusals (messageRows m) (row-numbers m)
 
 -- A verdict that is done.
 pub data IsDone (v : Verdict) : Type 0 where
@@ -84,10 +96,6 @@ never-13 m e = go (judge m) refl e
     go : (v : Verdict) → judge m ≡ v → answerOf v ≡ 13 → ⊥
     go (done o b p) q e = omega arith
     go (refused r) q e = refused-number m r q .1 e
-
--- The rows of the table are refusals.
-pub message-refusals : (m : List ℕ) → Refusals (messageRows m)
-message-refusals m = all-weaken _ _ (λ r h z. omega arith) (messageRows m) (row-numbers m)
 
 -- A message that is done has 10H and 06H behind its F0H.
 pub done-head : (m : List ℕ) → answerOf (judge m) ≡ 0 → (byteAt m 1 ≡ 0x10) × (byteAt m 2 ≡ 0x06)

@@ -1,4 +1,4 @@
--- Document 01's table for a complete message without its real-time bytes: what it comes to.
+-- Document 01's table for a complete message without its real-time bytes, less 14, which is withdrawn: what it comes to.
 use mathlib.Core.Bool.{Bool, not}
 use mathlib.Core.List.{List, [], _∷_, _++_}
 use Prim.Native.Nat.{ℕ, zero, suc, _+_, _*_}

@@ -23,7 +23,7 @@ fn lies_between(least: u8, greatest: u8, b: u8) -> bool
 }
 
 // A byte lies in the range of its row: place, parameter, least and greatest value. Past the table both bounds are 0.
-pub fn in_row(table: &[[u8; 4]], place: usize, b: u8) -> bool
+fn in_row(table: &[[u8; 4]], place: usize, b: u8) -> bool
     ensures { λ r. ⌜ r ≡ inRow (now (table .entry)) place b ⌝ }
 {
     if table.len() <= place {

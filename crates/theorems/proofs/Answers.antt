@@ -16,7 +16,7 @@ use Rattle.answers.specs.declared.Outcome.{Outcome}
 use Rattle.answers.specs.Table.{Row, row, says, Verdict, done, refused, first, outcome, outcomeOf, four}
 use Rattle.answers.specs.Effect.{Effect, tested}
 use Rattle.answers.proofs.Lists.{all-append, all-weaken}
-use Rattle.answers.proofs.Rows.{Refusals, numberOf, Heard, nothing, something, heard, first-append, first-passed}
+use Rattle.answers.proofs.Rows.{IsRefusal, Refusals, both-refusals, Heard, nothing, something, heard, first-append, first-passed}
 use Rattle.answers.proofs.Rows.{passed-over, done-passed, given-first, first-given, row-equal, first-number, tested-passed, decides}
 use Rattle.answers.proofs.Effects.{changed-decides, changed-keeps, written-decides, written-keeps}
 use Rattle.answers.specs.promises.Decides.{Decides, Keeps, Silent}
@@ -88,11 +88,12 @@ module _ (l : List ℕ) where
   record-made : IsDone (recordIn l)
   record-made = record-done (kindOf (byteAt (complete l) 3)) (complete l)
 
-  walk-refusals : Refusals (walkRows l)
+  pub walk-refusals : Refusals (walkRows l)
   walk-refusals = (omega arith, (omega arith, (omega arith, message-refusals (complete l))))
 
-  room-refusals : (n : ℕ) (lent : List ℕ) → Refusals (thenRoom (walkRows l) n lent)
-  room-refusals n lent = all-append (λ (r : Row). numberOf r ≡ 0 → ⊥) (walkRows l) (row 13 (ltb (length lent) n) ∷ []) walk-refusals (omega arith)
+-- Rows of refusals and 13 behind them.
+pub room-refusals : (rows : List Row) (n : ℕ) (lent : List ℕ) → Refusals rows → Refusals (thenRoom rows n lent)
+room-refusals rows n lent a = both-refusals rows (row 13 (ltb (length lent) n) ∷ []) a (omega arith)
 
 -- An outcome that the rows come to with a record that is done.
 decides-by : (rows : List Row) (v : Verdict) (o : Outcome) → IsDone v → Refusals rows → o ≡ outcomeOf (first rows v) → Decides rows (outcomeOf v .detail) o
@@ -213,7 +214,9 @@ module _ (s : List ℕ) (place : ℕ) (lent : List ℕ) where
 
   read-answered : Answered (thenRoom (walkRows l) size lent) (opcodeIn l) size lent outcome-read (reads s place lent .lent)
   read-answered = record {
-    decides = decides-by (thenRoom (walkRows l) size lent) (recordIn l) _ (record-made l) (room-refusals l size lent) (read-told (finds s place));
+    decides =
+        let a = room-refusals (walkRows l) size lent (walk-refusals l) in
+        decides-by (thenRoom (walkRows l) size lent) (recordIn l) _ (record-made l) a (read-told (finds s place));
     keeps = read-kept (finds s place);
   }
 
@@ -249,15 +252,12 @@ with-bus-length : (b s a d : ℕ) (p : List ℕ) → length (withBus b s a d p) 
 unfolding withBus
 with-bus-length b s a d p = simp length-set
 
-both : (rows more : List Row) → Refusals rows → Refusals more → Refusals (rows ++ more)
-both rows more a b = all-append (λ (r : Row). numberOf r ≡ 0 → ⊥) rows more a b
-
 edit-answered : (n v : ℕ) (p : List ℕ) → let e = applying n v p in Answered (editRows n v ++ patchRows p) 0 (length p) p (e .result) (e .lent)
 unfolding applying
 edit-answered n v p =
     let rows = editRows n v ++ patchRows p in
     let new = withByte (placeOf n) (storedFor n v) p in
-    let a = both (editRows n v) (patchRows p) (edit-refusals n v) (patch-refusals p) in
+    let a = both-refusals (editRows n v) (patchRows p) (edit-refusals n v) (patch-refusals p) in
     record {
       decides = changed-decides 0 new p rows a;
       keeps = changed-keeps 0 new p (length p) rows (λ s. all-behind new p (with-byte-length (placeOf n) (storedFor n v) p)) a;
@@ -268,7 +268,7 @@ unfolding applyingBus
 bus-answered b s a d p =
     let rows = busRows b s a d ++ patchRows p in
     let new = withBus b s a d p in
-    let r = both (busRows b s a d) (patchRows p) (bus-refusals b s a d) (patch-refusals p) in
+    let r = both-refusals (busRows b s a d) (patchRows p) (bus-refusals b s a d) (patch-refusals p) in
     record {
       decides = changed-decides 0 new p rows r;
       keeps = changed-keeps 0 new p (length p) rows (λ s′. all-behind new p (with-bus-length b s a d p)) r;
@@ -315,7 +315,12 @@ bad-some (suc n) k ps b v e =
 
 bank-refusals : (n : ℕ) (ps : List ℕ) → Refusals (patchesRows n ps)
 bank-refusals zero ps = tt
-bank-refusals (suc n) ps = both (fieldRows (take 134 ps)) (patchesRows n (drop 134 ps)) (field-refusals (take 134 ps)) (bank-refusals n (drop 134 ps))
+bank-refusals (suc n) ps = both-refusals (fieldRows (take 134 ps)) (patchesRows n (drop 134 ps)) (field-refusals (take 134 ps)) (bank-refusals n (drop 134 ps))
+
+pub bank-table-refusals : (ps out : List ℕ) → Refusals (bankTable ps out)
+bank-table-refusals ps out =
+    let patches = patchesRows (length ps / 134) ps in
+    (omega arith, room-refusals patches (length (bankBytes ps)) out (bank-refusals (length ps / 134) ps))
 
 module _ (ps out : List ℕ) where
   abbrev wrongLength : Bool
@@ -360,8 +365,7 @@ module _ (ps out : List ℕ) where
   bank-answered : let e = writingBank ps out in Answered (bankTable ps out) (length bytes) (length bytes) out (e .result .outcome) (e .lent)
   bank-answered =
       let told = by-length wrongLength refl in
-      let a : Refusals (bankTable ps out) =
-      (omega arith, both (patchesRows (length ps / 134) ps) room (bank-refusals (length ps / 134) ps) (omega arith)) in
+      let a = bank-table-refusals ps out in
       record { decides = decides (bankTable ps out) (length bytes) [] [] _ a (told .outcome-told); keeps = told .kept }
 
 -- The lowest bad patch of a bank, among those from number k on, where those before it pass.
@@ -391,8 +395,8 @@ module _ (ps : List ℕ) where
       go (refused r) q e i =
           let same : record { outcome = r; place = k } ≡ b = cc in
           let rows = fieldRows (patchAt k ps) in
-          let is-refused : r .answer ≡ 0 → ⊥ = first-number (λ n. n ≡ 0 → ⊥) rows 0 [] [] r (field-refusals (patchAt k ps)) q in
-          subst (PlaceOf ps) same (refused-patch (sym (ap outcomeOf q)) is-refused h)
+          let is-refused = first-number IsRefusal rows 0 [] [] r (field-refusals (patchAt k ps)) q in
+          subst (PlaceOf ps) same (refused-patch (sym (ap outcomeOf q)) (λ z. omega arith) h)
 
   by-bank : (out : List ℕ) (o : Option BankOutcome) → firstBad (length ps / 134) 0 ps ≡ o → PlaceOf ps (unlessBad o (bankBytes ps) out .result)
   by-bank out (some b) e = bad-place (length ps / 134) 0 b e (λ j l. absurd (omega arith))
@@ -431,8 +435,8 @@ demand-1 = record {
   test = λ p. decides (patchRows p) 0 [] [] _ (patch-refusals p) refl;
   test-edit = λ n v. decides (editRows n v) 0 [] [] _ (edit-refusals n v) refl;
   test-bus-edit = λ b s a d. decides (busRows b s a d) 0 [] [] _ (bus-refusals b s a d) refl;
-  test-packed = λ q p. decides (lentRows q p) 0 [] [] _ ((λ z. omega arith), packed-refusals q p) refl;
-  test-operands = λ o b. decides (lentOperandRows o b) 0 [] [] _ ((λ z. omega arith), operand-refusals o b) refl;
+  test-packed = λ q p. decides (lentRows q p) 0 [] [] _ (omega arith, packed-refusals q p) refl;
+  test-operands = λ o b. decides (lentOperandRows o b) 0 [] [] _ (omega arith, operand-refusals o b) refl;
   test-table = λ n t p. decides (countedRows n t p) 0 [] [] _ (omega arith) refl;
   judges = λ m. let k = kindOf (byteAt m 3) in decides-by (messageRows m) (recordOf k m) _ (record-done k m) (message-refusals m) refl;
   set-name = name-answered;

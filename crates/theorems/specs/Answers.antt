@@ -62,7 +62,7 @@ module _ (l : List ℕ) where
   abbrev pub opcodeIn : ℕ
   opcodeIn = outcomeOf recordIn .detail
 
-  -- The walk's table: no F0H; cut; interrupted; the rows of a complete message, 4 to 12 with 14 behind 8.
+  -- The walk's table: no F0H; cut; interrupted; the rows of a complete message, 4 to 12.
   abbrev pub walkRows : List Row
   walkRows =
       row 1 (isEmpty l) ∷

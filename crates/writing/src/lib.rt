@@ -170,7 +170,7 @@ pub fn write_edit(parameter: Parameter, value: u8, out: &mut [u8]) -> Outcome
     write_short(REMOTE_EDIT, &[parameter.0, value], out)
 }
 
-// Writes a matrix modulation edit: its own 8, 14, 11 and 12, then 13. Done with detail 9.
+// Writes a matrix modulation edit: its own 8, 11 and 12, then 13. Done with detail 9.
 pub fn write_bus_edit(bus: u8, source: u8, amount: u8, destination: u8, out: &mut [u8]) -> Outcome
     ensures { λ r. ⌜ Gives (writing (ofShort busEdit) (bus ∷ source ∷ amount ∷ destination ∷ []) [] (now (out .entry))) r (now (out .exit)) ⌝ }
 {

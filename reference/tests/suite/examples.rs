@@ -118,14 +118,6 @@ fn extension() {
 }
 
 #[test]
-fn no_amount_is_outside_after_extension() {
-    for value in 0..=127 {
-        assert!((-64..=63).contains(&extend(value).cast_signed()));
-        assert_eq!(extend(value) & 0x7F, value);
-    }
-}
-
-#[test]
 fn vcf_frequency_is_not_extended() {
     assert_eq!(place_of(0x15), Some(26));
     done_edit(0x15, 0x7F, 26, 127);

@@ -15,3 +15,4 @@ mod streams;
 mod table;
 mod vectors;
 mod walking;
+mod withdrawn;

@@ -1,9 +1,6 @@
--- The tests in the order of the rows: bus and amount, the amount's own range, then the three bytes.
-use mathlib.Core.Path.{sym, ap, _∙_}
+-- The tests in the order of the rows: bus and amount, then the three bytes.
 use borrow.Author.Needs.{needs}
-use borrow.Author.Tests.{lt-ltb, le-ltb, not-true, not-false}
-use Rattle.ranges.specs.Ranges.{inRow}
-use Rattle.fields.specs.Fields.{fields, inRange}
+use borrow.Author.Tests.{lt-ltb, le-ltb}
 use Rattle.edits.specs.Edits.{busRows}
 use Rattle.edits.proofs.test_bus_edit.Statement.{statement}
 use Rattle.edits.proofs.test_bus_edit.Tie as tie
@@ -17,21 +14,11 @@ unfolding busRows
 returns-2 c = simp (le-ltb _ _ (c .before .before .if1 .left), lt-ltb _ _ (c .before .if2 .taken)) (c .refused2 .ensures)
 
 returns-3 : tie.Need-returns-3
-unfolding busRows fields inRow
+unfolding busRows
 returns-3 c =
-    let e = c .before .before .before .before in
-    let amounts = e .before in
-    let out = ap (inRange 105) (sym (e .extend .ensures)) ∙ sym (c .before .before .in-row .ensures) ∙ not-true _ (c .before .if3 .taken) in
-    simp (le-ltb _ _ (amounts .before .if1 .left), le-ltb _ _ (amounts .if2 .left), out) (c .refused3 .ensures)
-
-returns-4 : tie.Need-returns-4
-unfolding busRows fields inRow
-returns-4 c =
-    let e = c .before .before .before .before in
-    let amounts = e .before in
-    let inside = ap (inRange 105) (sym (e .extend .ensures)) ∙ sym (c .before .before .in-row .ensures) ∙ not-false _ (c .before .if3 .left) in
-    let bytes = rw (e .extend .ensures) at (c .test-bytes .ensures) in
-    simp (le-ltb _ _ (amounts .before .if1 .left), le-ltb _ _ (amounts .if2 .left), inside) bytes
+    let amounts = c .before .before in
+    let bytes = rw (c .before .extend .ensures) at (c .test-bytes .ensures) in
+    simp (le-ltb _ _ (amounts .before .if1 .left), le-ltb _ _ (amounts .if2 .left)) bytes
 
 pub test-bus-edit-spec : {M : Type 1} → statement M
 test-bus-edit-spec =
@@ -42,9 +29,5 @@ test-bus-edit-spec =
     (λ c κs. search needs)
     returns-2
     (λ c κs. search needs)
-    (λ c. search needs)
     (λ c κs. search needs)
-    (λ c κs. search needs)
-    returns-3
-    (λ c κs. search needs)
-    returns-4)
+    returns-3)
