@@ -12,6 +12,7 @@ mod calls;
 mod lent;
 mod long;
 mod routines;
+mod slips;
 mod stack;
 
 use std::collections::BTreeMap;

@@ -8,6 +8,7 @@ use reference::streams::Random;
 
 use crate::calls;
 use crate::lent::Call;
+use crate::slips;
 
 /// Where a routine's inputs come from.
 #[derive(Clone, Copy)]
@@ -249,10 +250,14 @@ const REPORTS: Routine = Routine {
 /// What the inputs are called that have real time among all their bytes.
 const NOISY: &str = ", among real time";
 
+/// What slipped neighbours are called.
+const EXCHANGED: &str = ", every pair of neighbours exchanged";
+const REPLACED: &str = ", every pair of values for a byte's nibbles";
+
 /// What the bus edits are called with each byte as bus and each as amount.
 const AMOUNTS: &str = ", every bus and amount";
 
-pub static ROUTINES: [Routine; 27] = [
+pub static ROUTINES: [Routine; 31] = [
     WALK,
     Routine {
         inputs: NOISY,
@@ -270,10 +275,30 @@ pub static ROUTINES: [Routine; 27] = [
         source: Source::Every(65_536, calls::every_amount_sent),
         ..READ
     },
+    Routine {
+        inputs: EXCHANGED,
+        source: Source::Every(slips::EXCHANGES, slips::read_exchange),
+        ..READ
+    },
+    Routine {
+        inputs: REPLACED,
+        source: Source::Every(slips::PAIRS, slips::read_pair),
+        ..READ
+    },
     REPORTS,
     Routine {
         inputs: NOISY,
         source: Source::Any(calls::reports_noisy),
+        ..REPORTS
+    },
+    Routine {
+        inputs: EXCHANGED,
+        source: Source::Every(slips::EXCHANGES, slips::report_exchange),
+        ..REPORTS
+    },
+    Routine {
+        inputs: REPLACED,
+        source: Source::Every(slips::PAIRS, slips::report_pair),
         ..REPORTS
     },
     TEST_PATCH,

@@ -7,7 +7,7 @@ use Prim.Native.Nat.{ℕ, _+_, _*_, _<_}
 use native.Mathlib.Omega.{arith}
 use lib.ListN.{length, take, drop, getD}
 use Rattle.answers.specs.Table.{done, answerOf}
-use Rattle.answers.proofs.Rows.{first-passed, zero-silent, row-silent, row-at-silent, row-equal}
+use Rattle.answers.proofs.Rows.{first-passed, zero-silent, row-at-silent}
 use Rattle.answers.specs.promises.Decides.{Silent}
 use Rattle.streams.specs.Bytes.{framed}
 use Rattle.nibbles.specs.Nibbles.{pack, firstWide, wideFrom}
@@ -15,7 +15,7 @@ use Rattle.messages.specs.Kinds.{Kind, ofDump, ofShort, unknown, kindOf,
 use Rattle.messages.specs.code.Sizes.{packedSize}
 use Rattle.messages.specs.Judge.{byteAt, dataOf, packedOf, dataRows, numberIn, bytesFrom, kindRows, messageRows, recordOf, judge}
 use Rattle.messages.proofs.Filed.{found-filed, filed-sized}
-use Rattle.messages.proofs.Numbers.{message-refusals}
+use Rattle.messages.proofs.Numbers.{message-refusals, done-kind}
 use Rattle.messages.proofs.Content.{framed-length, framed-byte, framed-data}
 
 pub record Accepted (c : List ℕ) : Type 0 where
@@ -35,9 +35,8 @@ accepted c z =
     let m = framed c in
     let k = kindOf (byteAt m 3) in
     let s = zero-silent (messageRows m) (recordOf k m) (message-refusals m) z in
-    let known = row-silent 6 (isUnknown k) (s .1 .1 .0) in
-    let long = row-equal 7 (length m) (lengthOf k) (s .1 .1 .1 .0) in
-    by-kind k refl known (found-filed (byteAt m 3) known) long (s .1 .1 .1 .1) (first-passed (messageRows m) (recordOf k m) s)
+    let q = done-kind m z in
+    by-kind k refl (q .known) (found-filed (byteAt m 3) (q .known)) (q .long) (q .passed) (first-passed (messageRows m) (recordOf k m) s)
   where
     -- The byte behind the device finds the kind.
     found : (k : Kind) → kindOf (byteAt (framed c) 3) ≡ k → 2 < length c → kindOf (getD c 2 0) ≡ k

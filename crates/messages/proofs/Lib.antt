@@ -2,7 +2,8 @@ pub mod Filed
 pub mod Content
 pub mod Numbers
 pub mod DumpLaws
-pub mod Replaced
+pub mod Heads
+pub mod Neighbours
 pub mod OneNibble
 pub mod Accepted
 pub mod Written

@@ -1,17 +1,21 @@
 -- A message that is refused has one of the numbers 4 to 12, and one that is done has passed every row.
 -- The numbers are read off the rows; what `first` gives is done or has the number of one of its rows.
 use mathlib.Core.Path.{_≡_, refl}
+use mathlib.Core.Bool.{false}
 use mathlib.Core.List.{List}
 use Prim.Native.Nat.{ℕ}
 use native.Mathlib.Omega.{arith}
+use lib.ListN.{length}
 use Rattle.answers.specs.Lists.{All}
 use Rattle.answers.specs.Table.{Row, numberOf, Verdict, done, refused, answerOf}
 use Rattle.answers.proofs.Lists.{all-weaken}
-use Rattle.answers.proofs.Rows.{Refusals, first-number, zero-silent, row-equal}
+use Rattle.answers.proofs.Rows.{Refusals, first-number, zero-silent, row-silent, row-equal}
+use Rattle.answers.specs.promises.Decides.{Silent}
 use Rattle.nibbles.specs.Nibbles.{pack}
 use Rattle.edits.specs.Edits.{editRows, busRows}
 use Rattle.answers.specs.declared.Outcome.{Outcome}
-use Rattle.messages.specs.Kinds.{Packed, Dump, Operands, anEdit, aBusEdit, Kind, ofDump, ofShort, unknown, countOf, kindOf, sizeOf}
+use Rattle.messages.specs.Kinds.{Packed, Dump, Operands, anEdit, aBusEdit, Kind, ofDump, ofShort, unknown}
+use Rattle.messages.specs.Kinds.{countOf, kindOf, sizeOf, lengthOf, isUnknown}
 use Rattle.messages.specs.Judge.{byteAt, dataOf, dataRows, packedRows, operandRows, bytesFrom, kindRows, messageRows, recordOf, judge}
 use Rattle.messages.specs.promises.Numbers.{InTable, RefusedNumbers}
 use Rattle.messages.specs.Layout.{behindFor, dumpGiven, givenRows}
@@ -103,3 +107,16 @@ unfolding judge
 done-head m e =
     let s = zero-silent (messageRows m) (recordOf (kindOf (byteAt m 3)) m) (message-refusals m) e in
     (row-equal 4 (byteAt m 1) 0x10 (s .0), row-equal 5 (byteAt m 2) 0x06 (s .1 .0))
+
+-- It is of a known kind, of its kind's length, and has passed its kind's rows.
+pub record OfKind (k : Kind) (m : List ℕ) : Type 0 where
+  pub known : isUnknown k ≡ false
+  pub long : length m ≡ lengthOf k
+  pub passed : Silent (kindRows k m)
+
+pub done-kind : (m : List ℕ) → answerOf (judge m) ≡ 0 → OfKind (kindOf (byteAt m 3)) m
+unfolding judge
+done-kind m e =
+    let k = kindOf (byteAt m 3) in
+    let s = zero-silent (messageRows m) (recordOf k m) (message-refusals m) e in
+    record { known = row-silent 6 (isUnknown k) (s .1 .1 .0); long = row-equal 7 (length m) (lengthOf k) (s .1 .1 .1 .0); passed = s .1 .1 .1 .1 }

@@ -3,7 +3,7 @@
 use mathlib.Core.Path.{_≡_, refl, sym, ap, _∙_}
 use mathlib.Core.Bool.{false}
 use mathlib.Core.List.{List, [], _∷_, _++_, append-assoc}
-use mathlib.Core.Logic.{_↔_, _⊎_, inl, inr, ⊎-elim}
+use mathlib.Core.Logic.{_↔_, _⊎_, inr, ⊎-elim}
 use Prim.Native.Nat.{ℕ, suc, _+_, _*_, _/_, _%_, _<_}
 use native.Mathlib.Omega.{arith}
 use lib.ListN.{length, getD, take, drop, set, length-append}
@@ -14,7 +14,7 @@ use Rattle.answers.specs.Table.{answerOf}
 use Rattle.answers.proofs.Lists.{all-append, all-left, all-right, all-at}
 use Rattle.answers.proofs.Rows.{row-silent, row-equal}
 use Rattle.nibbles.specs.Nibbles.{nibbles, pack, total, sum}
-use Rattle.nibbles.proofs.Laws.{length-nibbles, nibbles-narrow, not-wide, total-append, pack-low, pack-high, low-changes-sum, high-changes-sum}
+use Rattle.nibbles.proofs.Laws.{length-nibbles, nibbles-narrow, not-wide, pack-pair, sum-around, Missed, missed, sums-alike}
 use Rattle.patch.specs.Patch.{halfFrom}
 use Rattle.nibbles.proofs.Laws.{Position, at-low, at-high, at-sum, position}
 use Rattle.messages.specs.Kinds.{anyBytes, Dump, ofDump, masterParameters, master, Filed, kindOf}
@@ -22,11 +22,6 @@ use Rattle.messages.specs.Judge.{dataRows, misnumbered, byteAt, judge}
 use Rattle.messages.specs.Layout.{messageOf, dump, behindFor}
 use Rattle.messages.specs.promises.OneNibble.{AnyBytesNibble, MasterNibble}
 use Rattle.messages.proofs.DumpLaws.{size, dump-tested, dump-passed}
-
--- A sum does not notice a byte that moved by 128.
-same-sum : (p₁ p₂ : List ℕ) (b c : ℕ) → (c ≡ b + 128) ⊎ (b ≡ c + 128) → sum (p₁ ++ b ∷ p₂) ≡ sum (p₁ ++ c ∷ p₂)
-unfolding sum total
-same-sum p₁ p₂ b c m = rw (total-append p₁ (b ∷ p₂), total-append p₁ (c ∷ p₂)) (⊎-elim (λ h. omega arith) (λ h. omega arith) m)
 
 module _ (k : Dump) (filed : Filed (ofDump k)) (count : ℕ) (any : k .packed ≡ anyBytes count)
     (n : ℕ) (number : misnumbered (k .behind) n ≡ false) (p : List ℕ) (l : length p ≡ size k) (bytes : All (λ b. b < 256) p) where
@@ -46,10 +41,10 @@ module _ (k : Dump) (filed : Filed (ofDump k)) (count : ℕ) (any : k .packed �
     split-bytes : All (λ b. b < 256) (p₁ ++ b ∷ p₂)
     split-bytes = rw e₀ at bytes
 
-    -- The nibbles x and y, of a byte c, in the place of those of the byte b.
-    changed-exactly : (x y c : ℕ) → x < 16 → y < 16 → pack (nibbles p₁ ++ (x ∷ y ∷ nibbles p₂)) ≡ p₁ ++ c ∷ p₂
-        → Accepted (nibbles p₁ ++ (x ∷ y ∷ (nibbles p₂ ++ (sum p ∷ [])))) ↔ (sum (p₁ ++ b ∷ p₂) ≡ sum (p₁ ++ c ∷ p₂))
-    changed-exactly x y c hx hy e =
+    -- The nibbles x and y in the place of those of the byte b.
+    changed-exactly : (x y : ℕ) → x < 16 → y < 16
+        → Accepted (nibbles p₁ ++ (x ∷ y ∷ (nibbles p₂ ++ (sum p ∷ [])))) ↔ Missed (b % 16) (b / 16) x y
+    changed-exactly x y hx hy =
         let d = nibbles p₁ ++ (x ∷ y ∷ nibbles p₂) in
         let halves = length-append (nibbles p₁) (x ∷ y ∷ nibbles p₂) in
         let long : length d ≡ 2 * size k =
@@ -57,27 +52,30 @@ module _ (k : Dump) (filed : Filed (ofDump k)) (count : ℕ) (any : k .packed �
         let before = nibbles-narrow p₁ (all-left _ p₁ (b ∷ p₂) split-bytes) in
         let behind = nibbles-narrow p₂ (all-right _ p₁ (b ∷ p₂) split-bytes .1) in
         let narrow = all-append (λ b. b < 16) (nibbles p₁) (x ∷ y ∷ nibbles p₂) before (hx, (hy, behind)) in
-        rw (← e₀, ← e) (rw (append-assoc (nibbles p₁) (x ∷ y ∷ nibbles p₂) (sum p ∷ [])) at (accepted-exactly d long narrow))
+        let q = rw (append-assoc (nibbles p₁) (x ∷ y ∷ nibbles p₂) (sum p ∷ [])) at (accepted-exactly d long narrow) in
+        let t = total p₁ + total p₂ in
+        let was : sum p ≡ (t + (b % 16 + 16 * (b / 16))) % 128 = rw e₀ (omega (arith, sum-around p₁ b p₂)) in
+        let is : sum (pack d) ≡ (t + (x + 16 * y)) % 128 = rw (pack-pair p₁ p₂ x y) (sum-around p₁ (x + 16 * y) p₂) in
+        let small = all-at _ p₁ b p₂ split-bytes in (
+          (λ e. missed t (b % 16) (b / 16) x y (omega arith) (omega arith) hx hy (sym was ∙ q .0 e ∙ is)),
+          (λ m. q .1 (was ∙ sums-alike t (b % 16) (b / 16) x y m ∙ sym is)),
+        )
 
   by-position : (u : List ℕ) (x : ℕ) (v : List ℕ) (y : ℕ) → Position p (sum p) u x v → length u < 2 * size k → y < 16 → (y ≡ x → ⊥)
       → Accepted (u ++ y ∷ v) ↔ ((length u % 2 ≡ 1) × ((y ≡ x + 8) ⊎ (x ≡ y + 8)))
   by-position u x v y (at-sum e₁ e₂ e₃) h hy ne = absurd (omega (arith, ap length e₁, length-nibbles p))
   by-position u x v y (at-low p₁ b p₂ e₀ e₁ e₂ e₃) h hy ne =
       let small = all-at _ p₁ b p₂ (split-bytes p₁ b p₂ e₀) in
-      let q = changed-exactly p₁ b p₂ e₀ y (b / 16) (y + 16 * (b / 16)) hy (omega arith) (pack-low p₁ p₂ b y) in (
-        (λ e. absurd (low-changes-sum p₁ p₂ b y hy (λ z. ne (z ∙ sym e₂)) (q .0 (rw (e₁, e₃) at e)))),
+      let q = changed-exactly p₁ b p₂ e₀ y (b / 16) hy (omega arith) in (
+        (λ e. absurd (ne (q .0 (rw (e₁, e₃) at e) .low ∙ sym e₂))),
         (λ z. absurd (omega (arith, ap length e₁, length-nibbles p₁))),
       )
   by-position u x v y (at-high p₁ b p₂ e₀ e₁ e₂ e₃) h hy ne =
-      let small = all-at _ p₁ b p₂ (split-bytes p₁ b p₂ e₀) in
-      let c = b % 16 + 16 * y in
-      let q = changed-exactly p₁ b p₂ e₀ (b % 16) y c (omega arith) hy (pack-high p₁ p₂ b y) in
+      let q = changed-exactly p₁ b p₂ e₀ (b % 16) y (omega arith) hy in
       let snoc = append-snoc (nibbles p₁) (b % 16) (y ∷ (nibbles p₂ ++ (sum p ∷ []))) in
-      let odd : length u % 2 ≡ 1 = omega (arith, ap length e₁, length-nibbles p₁, length-append (nibbles p₁) ((b % 16) ∷ [])) in
-      let by-8 : (c ≡ b + 128) ⊎ (b ≡ c + 128) → (y ≡ x + 8) ⊎ (x ≡ y + 8) = ⊎-elim (λ z. inl (omega arith)) (λ z. inr (omega arith)) in
-      let by-128 : (y ≡ x + 8) ⊎ (x ≡ y + 8) → (c ≡ b + 128) ⊎ (b ≡ c + 128) = ⊎-elim (λ z. inl (omega arith)) (λ z. inr (omega arith)) in (
-        (λ e. (odd, by-8 (high-changes-sum p₁ p₂ b y small hy (λ z. ne (z ∙ sym e₂)) (q .0 (rw (e₁, e₃, snoc) at e))))),
-        (λ z. rw (e₁, e₃, snoc) (q .1 (same-sum p₁ p₂ b c (by-128 (z .1))))),
+      let odd : length u % 2 ≡ 1 = omega (arith, ap length e₁, length-nibbles p₁, length-append (nibbles p₁) ((b % 16) ∷ [])) in (
+        (λ e. (odd, rw e₂ (⊎-elim (λ (z : y ≡ b / 16). absurd (ne (z ∙ sym e₂))) (λ m. m) (q .0 (rw (e₁, e₃, snoc) at e) .high)))),
+        (λ z. rw (e₁, e₃, snoc) (q .1 (record { low = refl; high = inr (rw e₂ at (z .1)) }))),
       )
 
 -- The byte x that stands behind the first five bytes of a message and i more, and another in its place.

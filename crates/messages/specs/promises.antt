@@ -1,3 +1,4 @@
 pub mod Given
 pub mod Numbers
 pub mod OneNibble
+pub mod Neighbours

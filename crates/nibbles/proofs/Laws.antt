@@ -3,18 +3,19 @@
 use mathlib.Core.Path.{_≡_, refl, sym, ap, _∙_}
 use mathlib.Core.Bool.{Bool, true, false, cond}
 use mathlib.Core.List.{List, [], _∷_, _++_, append-assoc, append-nil, tail-eq-of-cons-eq, nil≢cons}
-use mathlib.Core.Logic.{_⊎_, inl, inr}
+use mathlib.Core.Logic.{_⊎_, inl, inr, ⊎-elim}
 use mathlib.Core.Option.{none, some}
 use Prim.Native.Nat.{ℕ, zero, suc, _+_, _*_, _/_, _%_, _≤_, _<_}
 use native.Mathlib.Nat.{add-zero, add-assoc, mod-add-mod, le-of-suc-le-suc}
 use native.Mathlib.Numerals.{add-one}
 use native.Mathlib.Omega.{arith}
-use lib.Dec.{ltb}
+use lib.Dec.{eqb, ltb}
 use lib.ListN.{length, take, drop, getD, length-drop, take-append-drop, drop-of-length-le}
 use lib.Seq.{drop-cons, take-suc, length-take-le}
-use borrow.Author.Tests.{ltb-true, ltb-false, lt-ltb, le-ltb, eq-eqb, ne-eqb}
+use borrow.Author.Tests.{eqb-true, eqb-false, ltb-true, ltb-false, lt-ltb, le-ltb, eq-eqb, ne-eqb}
 use Rattle.answers.specs.Lists.{All}
 use Rattle.answers.specs.Table.{outcome}
+use Rattle.ranges.proofs.Between.{MovedBy}
 use Rattle.nibbles.specs.promises.Inverse.{FirstWideAt, Inverse}
 use Rattle.nibbles.specs.promises.Reduced.{reducing, Reduced}
 use Rattle.nibbles.specs.Nibbles.{nibbles, pack, total, sum, wideFrom, firstWide, packing, unpacking}
@@ -96,6 +97,13 @@ pub not-wide : (i : ℕ) (ns : List ℕ) → All (λ b. b < 16) ns → wideFrom 
 unfolding wideFrom
 not-wide i [] a = refl
 not-wide i (b ∷ ns) a = wide-next i b ns (le-of-suc-le-suc (a .0)) ∙ not-wide (suc i) ns (a .1)
+
+-- Behind bytes below 16 a wide one is the first.
+pub wide-behind : (i : ℕ) (ns : List ℕ) (b : ℕ) (bs : List ℕ) → All (λ b. b < 16) ns → 15 < b → wideFrom i (ns ++ b ∷ bs) ≡ some (i + length ns)
+wide-behind i [] b bs a h = rw (add-zero i) (wide-here i b bs h)
+wide-behind i (n ∷ ns) b bs a h =
+    let next : suc i + length ns ≡ i + suc (length ns) = omega arith in
+    wide-next i n (ns ++ b ∷ bs) (le-of-suc-le-suc (a .0)) ∙ wide-behind (suc i) ns b bs (a .1) h ∙ ap some next
 
 -- Where none is wide, all are below 16.
 pub wide-none : (i : ℕ) (ns : List ℕ) → wideFrom i ns ≡ none → All (λ b. b < 16) ns
@@ -195,48 +203,59 @@ inverse = record {
   none-wide = λ ns. (wide-none _ ns, not-wide _ ns);
 }
 
--- The sum of packed bytes around one of them.
-pub sum-around : (p₁ : List ℕ) (b : ℕ) (p₂ : List ℕ) → sum (p₁ ++ b ∷ p₂) ≡ (total p₁ + (b + total p₂)) % 128
-unfolding sum total
-sum-around p₁ b p₂ = ap (λ (n : ℕ). n % 128) (total-append p₁ (b ∷ p₂))
+-- A low and a high nibble changed under a sum that stayed: the low one did not change, the high one not or by 8.
+pub record Missed (l h l′ h′ : ℕ) : Type 0 where
+  pub low : l′ ≡ l
+  pub high : (h′ ≡ h) ⊎ MovedBy 8 h h′
 
--- A low nibble that is replaced by another changes the sum.
-pub low-moves : (a c b y : ℕ) → y < 16 → (y ≡ b % 16 → ⊥) → (a + (b + c)) % 128 ≡ (a + ((y + 16 * (b / 16)) + c)) % 128 → ⊥
-low-moves a c b y h n e = omega arith
-
--- A high nibble that is replaced by another leaves the sum only where the byte moved by 128.
-pub high-moves : (a c b y : ℕ) → b < 256 → y < 16 → (y ≡ b / 16 → ⊥) → (a + (b + c)) % 128 ≡ (a + ((b % 16 + 16 * y) + c)) % 128
-    → (b % 16 + 16 * y ≡ b + 128) ⊎ (b ≡ b % 16 + 16 * y + 128)
-high-moves a c b y s h n e = by (ltb y (b / 16)) refl
+pub missed : (t l h l′ h′ : ℕ) → l < 16 → h < 16 → l′ < 16 → h′ < 16 → (t + (l + 16 * h)) % 128 ≡ (t + (l′ + 16 * h′)) % 128 → Missed l h l′ h′
+missed t l h l′ h′ n₁ n₂ n₃ n₄ e = record { low = omega arith; high = by (eqb h′ h) (ltb h′ h) refl refl }
   where
-    by : (t : Bool) → ltb y (b / 16) ≡ t → (b % 16 + 16 * y ≡ b + 128) ⊎ (b ≡ b % 16 + 16 * y + 128)
-    by true q = let less = ltb-true y (b / 16) q in inr (omega arith)
-    by false q = let more = ltb-false y (b / 16) q in inl (omega arith)
+    by : (u v : Bool) → eqb h′ h ≡ u → ltb h′ h ≡ v → (h′ ≡ h) ⊎ MovedBy 8 h h′
+    by true v q r = inl (eqb-true h′ h q)
+    by false true q r = let other = eqb-false h′ h q in let less = ltb-true h′ h r in inr (inr (omega arith))
+    by false false q r = let other = eqb-false h′ h q in let more = ltb-false h′ h r in inr (inl (omega arith))
 
--- Packed bytes in which one low nibble differs have another sum.
-pub low-changes-sum : (p₁ p₂ : List ℕ) (b y : ℕ) → y < 16 → (y ≡ b % 16 → ⊥)
-    → sum (p₁ ++ b ∷ p₂) ≡ sum (p₁ ++ (y + 16 * (b / 16)) ∷ p₂) → ⊥
-low-changes-sum p₁ p₂ b y h n e =
-    low-moves (total p₁) (total p₂) b y h n (sym (sum-around p₁ b p₂) ∙ e ∙ sum-around p₁ (y + 16 * (b / 16)) p₂)
+-- Such nibbles have the same sum.
+pub sums-alike : (t l h l′ h′ : ℕ) → Missed l h l′ h′ → (t + (l + 16 * h)) % 128 ≡ (t + (l′ + 16 * h′)) % 128
+sums-alike t l h l′ h′ m =
+    let low = m .low in
+    ⊎-elim (λ e. omega arith) (λ (w : MovedBy 8 h h′). ⊎-elim (λ e. omega arith) (λ e. omega arith) w) (m .high)
 
--- Packed bytes in which one high nibble differs have the same sum only where that byte moved by 128.
-pub high-changes-sum : (p₁ p₂ : List ℕ) (b y : ℕ) → b < 256 → y < 16 → (y ≡ b / 16 → ⊥)
-    → sum (p₁ ++ b ∷ p₂) ≡ sum (p₁ ++ (b % 16 + 16 * y) ∷ p₂)
-    → (b % 16 + 16 * y ≡ b + 128) ⊎ (b ≡ b % 16 + 16 * y + 128)
-high-changes-sum p₁ p₂ b y s h n e =
-    high-moves (total p₁) (total p₂) b y s h n (sym (sum-around p₁ b p₂) ∙ e ∙ sum-around p₁ (b % 16 + 16 * y) p₂)
+-- A high nibble h and a sum s that change places under a sum that fits are equal: 17 times their difference would be a multiple of 128.
+pub sums-exchanged : (t l h s : ℕ) → h < 16 → s < 16 → s ≡ (t + (l + 16 * h)) % 128 → h ≡ (t + (l + 16 * s)) % 128 → h ≡ s
+sums-exchanged t l h s n₁ n₂ was is = by (ltb h s) (ltb s h) refl refl
+  where
+    q₁ : ℕ
+    q₁ = (t + (l + 16 * h)) / 128
+
+    q₂ : ℕ
+    q₂ = (t + (l + 16 * s)) / 128
+
+    multiple : 17 * s + 128 * q₁ ≡ 17 * h + 128 * q₂
+    multiple = omega arith
+
+    by : (u v : Bool) → ltb h s ≡ u → ltb s h ≡ v → h ≡ s
+    by true v q r = let less = ltb-true h s q in let one : q₂ ≡ q₁ + 1 = omega (arith, multiple) in absurd (omega (arith, multiple))
+    by false true q r = let less = ltb-true s h r in let one : q₁ ≡ q₂ + 1 = omega (arith, multiple) in absurd (omega (arith, multiple))
+    by false false q r = omega (arith, ltb-false h s q, ltb-false s h r)
+
+-- The sum of packed bytes around one of them.
+pub sum-around : (p₁ : List ℕ) (b : ℕ) (p₂ : List ℕ) → sum (p₁ ++ b ∷ p₂) ≡ (total p₁ + total p₂ + b) % 128
+unfolding sum total
+sum-around p₁ b p₂ = omega (arith, total-append p₁ (b ∷ p₂))
 
 -- Places in nibbles with their sum.
 
--- The packed bytes where one low nibble is y.
-pub pack-low : (p₁ p₂ : List ℕ) (b y : ℕ) → pack (nibbles p₁ ++ (y ∷ (b / 16) ∷ nibbles p₂)) ≡ p₁ ++ (y + 16 * (b / 16)) ∷ p₂
+-- The packed bytes where two nibbles of one of them are x and y.
+pub pack-pair : (p₁ p₂ : List ℕ) (x y : ℕ) → pack (nibbles p₁ ++ (x ∷ y ∷ nibbles p₂)) ≡ p₁ ++ (x + 16 * y) ∷ p₂
 unfolding pack
-pack-low p₁ p₂ b y = rw (pack-after-nibbles p₁ (y ∷ (b / 16) ∷ nibbles p₂), pack-nibbles p₂)
+pack-pair p₁ p₂ x y = rw (pack-after-nibbles p₁ (x ∷ y ∷ nibbles p₂), pack-nibbles p₂)
 
--- The packed bytes where one high nibble is y.
-pub pack-high : (p₁ p₂ : List ℕ) (b y : ℕ) → pack (nibbles p₁ ++ ((b % 16) ∷ y ∷ nibbles p₂)) ≡ p₁ ++ (b % 16 + 16 * y) ∷ p₂
+-- The packed bytes where the high nibble of one is x and the low nibble of the next is y.
+pub pack-across : (p₁ p₂ : List ℕ) (l x y h : ℕ) → pack (nibbles p₁ ++ (l ∷ x ∷ y ∷ h ∷ nibbles p₂)) ≡ p₁ ++ (l + 16 * x) ∷ (y + 16 * h) ∷ p₂
 unfolding pack
-pack-high p₁ p₂ b y = rw (pack-after-nibbles p₁ ((b % 16) ∷ y ∷ nibbles p₂), pack-nibbles p₂)
+pack-across p₁ p₂ l x y h = rw (pack-after-nibbles p₁ (l ∷ x ∷ y ∷ h ∷ nibbles p₂), pack-nibbles p₂)
 
 -- A byte x, with u before it and v behind it, in the nibbles of p and then s: the low or the high nibble of a byte of p, or s.
 pub data Position (p : List ℕ) (s : ℕ) (u : List ℕ) (x : ℕ) (v : List ℕ) : Type 0 where
@@ -265,6 +284,25 @@ position [] s (a ∷ u) x v e = absurd (no-tail u x v (tail-eq-of-cons-eq e))
 position (b ∷ p) s [] x v e = at-low [] b p refl refl (cc) (cc)
 position (b ∷ p) s (a ∷ []) x v e = at-high [] b p refl (cc) (cc) (cc)
 position (b ∷ p) s (a ∷ a′ ∷ u) x v e = further b a a′ (cc) (cc) (position p s u x v (cc))
+
+-- Two neighbours a and b, with u before them and v behind them, in the nibbles of p and then s: the two nibbles of a byte, the high one of a
+-- byte and the low one of the next, or the last nibble and s.
+pub data Neighbours (p : List ℕ) (s : ℕ) (u : List ℕ) (a b : ℕ) (v : List ℕ) : Type 0 where
+  within : (p₁ : List ℕ) (c : ℕ) (p₂ : List ℕ) → p ≡ p₁ ++ c ∷ p₂
+      → u ≡ nibbles p₁ → a ≡ c % 16 → b ≡ c / 16 → v ≡ nibbles p₂ ++ (s ∷ []) → Neighbours p s u a b v
+  across : (p₁ : List ℕ) (c c′ : ℕ) (p₂ : List ℕ) → p ≡ p₁ ++ c ∷ c′ ∷ p₂
+      → u ≡ nibbles p₁ ++ ((c % 16) ∷ []) → a ≡ c / 16 → b ≡ c′ % 16 → v ≡ (c′ / 16) ∷ (nibbles p₂ ++ (s ∷ [])) → Neighbours p s u a b v
+  at-end : (p₁ : List ℕ) (c : ℕ) → p ≡ p₁ ++ c ∷ [] → u ≡ nibbles p₁ ++ ((c % 16) ∷ []) → a ≡ c / 16 → b ≡ s → v ≡ [] → Neighbours p s u a b v
+
+pub neighbours : (p : List ℕ) (s : ℕ) (u : List ℕ) (a b : ℕ) (v : List ℕ) → u ++ a ∷ b ∷ v ≡ nibbles p ++ (s ∷ []) → Neighbours p s u a b v
+unfolding nibbles
+neighbours p s u a b v e = go (position p s u a (b ∷ v) e)
+  where
+    go : Position p s u a (b ∷ v) → Neighbours p s u a b v
+    go (at-low p₁ c p₂ e₀ e₁ e₂ e₃) = within p₁ c p₂ e₀ e₁ e₂ (cc) (cc)
+    go (at-high p₁ c [] e₀ e₁ e₂ e₃) = at-end p₁ c e₀ e₁ e₂ (cc) (cc)
+    go (at-high p₁ c (c′ ∷ p₂) e₀ e₁ e₂ e₃) = across p₁ c c′ p₂ e₀ e₁ e₂ (cc) (cc)
+    go (at-sum e₁ e₂ e₃) = absurd (nil≢cons (sym e₃))
 
 -- What packing and unpacking give, case by case.
 

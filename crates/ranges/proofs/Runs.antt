@@ -4,13 +4,14 @@ use mathlib.Core.Bool.{Bool, true, false, cond}
 use mathlib.Core.List.{List, [], _∷_, _++_}
 use mathlib.Core.Option.{Option, none, some}
 use Prim.Native.Nat.{ℕ, zero, suc, _+_, _≤_, _<_}
+use native.Mathlib.Nat.{add-zero}
 use native.Mathlib.Omega.{arith}
 use lib.Dec.{T}
 use lib.ListN.{length, set}
 use Rattle.answers.specs.Lists.{All}
 use Rattle.ranges.specs.Ranges.{Table, leastIn, greatestIn, inRow, outFrom}
 use Rattle.ranges.proofs.Below.{each, at}
-use Rattle.ranges.proofs.Between.{is-byte, narrow, narrow-apart}
+use Rattle.ranges.proofs.Between.{is-byte, narrow, MovedBy, moved-out}
 
 module _ (t : Table) where
   -- Bytes from place k on, none out of range: the first is accepted, and none of the rest is out of range.
@@ -76,14 +77,17 @@ module _ (t : Table) where
   abbrev pub narrow-row : ℕ → Bool
   narrow-row k = narrow (leastIn t k) (greatestIn t k)
 
-  -- Where they do, two runs of bytes that differ in one byte, by 128, do not both pass.
-  pub runs-apart : T (each narrow-row (length t)) → (k : ℕ) (p₁ : List ℕ) (b : ℕ) (p₂ : List ℕ) → k + length (p₁ ++ b ∷ p₂) ≤ length t
-      → outFrom t k (p₁ ++ b ∷ p₂) ≡ none → outFrom t k (p₁ ++ (b + 128) ∷ p₂) ≡ none → ⊥
-  unfolding inRow
-  runs-apart n k [] b p₂ h e f =
-      narrow-apart (leastIn t k) (greatestIn t k) b (at narrow-row (length t) n k (omega arith)) (one-in k b p₂ e .0) (one-in k (b + 128) p₂ f .0)
-  runs-apart n k (x ∷ p₁) b p₂ h e f =
-      runs-apart n (suc k) p₁ b p₂ (omega arith) (one-in k x (p₁ ++ b ∷ p₂) e .1) (one-in k x (p₁ ++ (b + 128) ∷ p₂) f .1)
+  -- Where they do, a byte that moved by 128 is the one byte out of range of a run that had none.
+  pub runs-moved : T (each narrow-row (length t)) → (k : ℕ) (p₁ : List ℕ) (b c : ℕ) (p₂ : List ℕ) → k + length (p₁ ++ b ∷ p₂) ≤ length t
+      → outFrom t k (p₁ ++ b ∷ p₂) ≡ none → MovedBy 128 b c → outFrom t k (p₁ ++ c ∷ p₂) ≡ some (k + length p₁)
+  unfolding outFrom inRow
+  runs-moved n k [] b c p₂ h e m =
+      let small = at narrow-row (length t) n k (omega arith) in
+      rw (moved-out (leastIn t k) (greatestIn t k) b c small (one-in k b p₂ e .0) m, add-zero k)
+  runs-moved n k (x ∷ p₁) b c p₂ h e m =
+      let first = one-in k x (p₁ ++ b ∷ p₂) e in
+      let next : k + suc (length p₁) ≡ suc k + length p₁ = omega arith in
+      rw (first .0, next) (runs-moved n (suc k) p₁ b c p₂ (omega arith) (first .1) m)
 
 -- A place, m further on.
 abbrev pub further : ℕ → Option ℕ → Option ℕ

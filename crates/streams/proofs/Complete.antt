@@ -21,7 +21,7 @@ use Rattle.streams.specs.code.Scan.{outside, scan}
 use Rattle.streams.proofs.Bytes.{lies-in, kind-is, body-on, body-stop}
 use Rattle.streams.proofs.Scan.{DataByte, further}
 use Rattle.streams.proofs.Walk.{cut-message, closed-message, interrupted-message}
-use Rattle.streams.proofs.OneByte.{scan-close}
+use Rattle.streams.proofs.Closing.{scan-close}
 
 -- Bytes below 80H are data bytes.
 pub data-bytes : (c : List ℕ) → All (λ b. b < 0x80) c → All DataByte c

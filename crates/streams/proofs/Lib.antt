@@ -2,6 +2,6 @@ pub mod Bytes
 pub mod Scan
 pub mod Walk
 pub mod Order
-pub mod OneByte
+pub mod Closing
 pub mod Complete
 pub mod Lent

@@ -115,7 +115,7 @@ lay-bank n ps before behind few long good =
     ∙ scan-bank f (suc n) 0 ps behind (omega arith) (omega arith) good
     ∙ ap (λ (x : ℕ). bankReports f (suc n) 0 ps ++ scan judge (f + x * 275) outside behind) all in
     record {
-      long = omega arith;
+      some-bytes = omega arith;
       whole = reports-scan judge (stream before (bankFrom (suc n) 0 ps) behind) ∙ start-bank n ps before behind
           ∙ rw size (ap (λ (x : List Report). ahead judge 0 outside before ++ x) scanned);
       placed = rw size (placed f (suc n) 0 (suc n) ps (omega arith));

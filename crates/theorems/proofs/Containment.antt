@@ -13,7 +13,8 @@ use Rattle.answers.proofs.Lists.{all-weaken}
 use Rattle.streams.specs.Bytes.{framed}
 use Rattle.streams.specs.Stream.{Report, report, reports}
 use Rattle.streams.specs.code.Scan.{outside, inside, scan}
-use Rattle.streams.proofs.Scan.{ahead, scan-exclusive}
+use Rattle.streams.proofs.Scan.{DataByte, after, emitted, ahead, scan-split, scan-exclusive}
+use Rattle.streams.proofs.Closing.{scan-close, emitted-within}
 use Rattle.streams.proofs.Walk.{reports-scan, scan-order}
 use Rattle.streams.proofs.Order.{order-from, ahead-before}
 use Rattle.messages.specs.Judge.{judge}
@@ -23,29 +24,50 @@ use Rattle.theorems.proofs.Readings.{readingOf, readings-back, Refused,
 
 -- Between the bytes before and behind, the bytes d give the reports m, and leave the scan outside.
 pub record Laid (before d behind : List ℕ) (m : List Report) : Type 0 where
-  pub long : 2 ≤ length d
+  pub some-bytes : 1 ≤ length d
   pub whole : reports judge (stream before d behind) ≡ ahead judge 0 outside before ++ (m ++ scan judge (length before + length d) outside behind)
   pub placed : All (λ r. (length before ≤ r .start) × (r .start < length before + length d - 1)) m
 
--- The bytes w between F0H and F7H, where the scan gives the reports m of them.
-pub lay : (before w behind : List ℕ) (m : List Report)
-    → scan judge (suc (length before)) (inside (length before) []) (w ++ 0xF7 ∷ behind) ≡ m ++ scan judge (suc (suc (length before) + length w)) outside behind
-    → All (λ r. (length before ≤ r .start) × (r .start < suc (length before) + length w)) m → Laid before (framed w) behind m
-lay before w behind m e a =
-    let size = length-append w (0xF7 ∷ []) in
-    let last : suc (suc (length before) + length w) ≡ length before + length (framed w) = omega arith in
+-- What the bytes w behind an F0H complete, where they leave the scan outside.
+abbrev pub found : List ℕ → List ℕ → List Report
+found before w = emitted judge (suc (length before)) (inside (length before) []) w
+
+pub lay : (before w behind : List ℕ) → after (suc (length before)) (inside (length before) []) w ≡ outside → Laid before (0xF0 ∷ w) behind (found before w)
+lay before w behind e =
+    let last : suc (length before) + length w ≡ length before + suc (length w) = omega arith in
     record {
-      long = omega arith;
+      some-bytes = omega arith;
       whole =
           rw (
-            reports-scan judge (stream before (framed w) behind),
-            append-assoc w (0xF7 ∷ []) behind,
-            scan-exclusive judge before 0 outside (w ++ 0xF7 ∷ behind),
+            reports-scan judge (stream before (0xF0 ∷ w) behind),
+            scan-exclusive judge before 0 outside (w ++ behind),
             zero-add (length before),
+            scan-split judge w (suc (length before)) (inside (length before) []) behind,
             e,
             last,
           );
-      placed = all-weaken _ _ (λ r h. omega arith) m a;
+      placed =
+          all-weaken _ _ (λ r h. omega arith) (found before w)
+          (emitted-within judge w (length before) (suc (length before)) (inside (length before) []) (omega arith));
+    }
+
+-- Data bytes between F0H and F7H give one report.
+pub one-message : (before c behind : List ℕ) → All DataByte c
+    → Laid before (framed c) behind (report (length before) (length before + length (framed c)) (judge (framed c)) ∷ [])
+one-message before c behind a =
+    let last : suc (suc (length before) + length c) ≡ length before + length (framed c) = omega (arith, length-append c (0xF7 ∷ [])) in
+    record {
+      some-bytes = omega arith;
+      whole =
+          rw (
+            reports-scan judge (stream before (framed c) behind),
+            append-assoc c (0xF7 ∷ []) behind,
+            scan-exclusive judge before 0 outside (c ++ 0xF7 ∷ behind),
+            zero-add (length before),
+            scan-close judge c a (suc (length before)) (length before) [] behind,
+            last,
+          );
+      placed = ((omega arith, omega (arith, last)), tt);
     }
 
 module _ (before d behind : List ℕ) (m : List Report) (laid : Laid before d behind m) where
@@ -55,7 +77,7 @@ module _ (before d behind : List ℕ) (m : List Report) (laid : Laid before d be
   parts =
       let end = length before + length d in
       rw (laid .whole)
-      (parted (length before) (end - 1) end (omega (arith, laid .long)) (omega arith) (ahead judge 0 outside before) m (scan judge end outside behind)
+      (parted (length before) (end - 1) end (omega (arith, laid .some-bytes)) (omega arith) (ahead judge 0 outside before) m (scan judge end outside behind)
       (ahead-before judge before) (laid .placed) (order-from (scan judge end outside behind) end end _ (omega arith) (scan-order judge behind end)))
 
   pub whole-parts : reports judge (stream before d behind) ≡ reportsBefore before d behind ++ (reportsOfDump before d behind ++ reportsAfter before d behind)

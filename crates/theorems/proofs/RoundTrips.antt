@@ -4,10 +4,10 @@ use mathlib.Core.Path.{_≡_, ap, sym, _∙_, subst, refl}
 use mathlib.Core.Bool.{Bool, true, false}
 use mathlib.Core.List.{List, [], _∷_, _++_}
 use mathlib.Core.Option.{Option, none, some}
-use Prim.Native.Nat.{ℕ, suc, _+_, _<_}
+use Prim.Native.Nat.{ℕ, _+_, _<_}
 use native.Mathlib.Omega.{arith}
 use lib.Dec.{leb}
-use lib.ListN.{length, take, drop, length-append}
+use lib.ListN.{length, take, drop}
 use lib.Seq.{take-append-seam}
 use borrow.Author.Tests.{le-leb}
 use Rattle.answers.specs.declared.Outcome.{Outcome}
@@ -18,7 +18,6 @@ use Rattle.answers.proofs.Lists.{all-weaken}
 use Rattle.streams.specs.Bytes.{framed}
 use Rattle.streams.specs.Stream.{Report, report, readInto, readReport, walk, reports, read}
 use Rattle.streams.proofs.Walk.{reread}
-use Rattle.streams.proofs.OneByte.{scan-close}
 use Rattle.streams.proofs.Complete.{data-bytes, walk-framed, complete}
 use Rattle.names.proofs.Laws.{set-then-shown, shown-then-set}
 use Rattle.edits.proofs.Laws.{edit-done, bus-done, edit-own-field, bus-own-field}
@@ -32,7 +31,7 @@ use Rattle.messages.proofs.Written.{sound}
 use Rattle.messages.proofs.AsWritten.{Accepted, accepted}
 use Rattle.theorems.specs.RoundTrips.{Ours, putting, sent, WrittenReadBack, Again, messageIn, WrittenAgain, ReadAgain, ReadWrittenAgain, Demand2}
 use Rattle.theorems.specs.Damage.{stream, reportsBefore, reportsAfter}
-use Rattle.theorems.proofs.Containment.{lay, parts, whole-parts}
+use Rattle.theorems.proofs.Containment.{one-message, parts, whole-parts}
 use Rattle.theorems.proofs.Writers.{takes, taken, sound-holds}
 use Rattle.theorems.proofs.Bank.{bank-read-back}
 
@@ -41,11 +40,9 @@ framed-reported : (before c behind : List ℕ) → All (λ b. b < 0x80) c → re
     ≡ reportsBefore before (framed c) behind
     ++ report (length before) (length before + length (framed c)) (judge (framed c)) ∷ reportsAfter before (framed c) behind
 framed-reported before c behind a =
-    let f = length before in
-    let one = report f (suc (suc f + length c)) (judge (framed c)) ∷ [] in
-    let laid = lay before c behind one (scan-close judge c (data-bytes c a) (suc f) f [] behind) ((omega arith, omega arith), tt) in
-    let last : suc (suc f + length c) ≡ f + length (framed c) = omega (arith, length-append c (0xF7 ∷ [])) in
-    whole-parts before (framed c) behind one laid ∙ rw (parts before (framed c) behind one laid .within, last)
+    let one = report (length before) (length before + length (framed c)) (judge (framed c)) ∷ [] in
+    let laid = one-message before c behind (data-bytes c a) in
+    whole-parts before (framed c) behind one laid ∙ rw (parts before (framed c) behind one laid .within)
 
 pub written-read-back : WrittenReadBack
 unfolding read

@@ -1,4 +1,4 @@
--- Demand 3: one damaged byte of a patch dump costs that dump alone.
+-- Demand 3: one damaged byte of a patch dump, or two neighbours, cost that dump alone.
 use mathlib.Core.Path.{_≡_}
 use mathlib.Core.Bool.{Bool, _&&_, cond}
 use mathlib.Core.List.{List, [], _∷_, _++_, map}
@@ -17,22 +17,35 @@ use Rattle.messages.specs.Judge.{judge}
 use Rattle.messages.specs.Layout.{message, recordFor, givenRows}
 use Rattle.messages.specs.promises.Given.{Given}
 
--- One byte replaced, lost, or one added in front of it.
+-- One byte replaced, lost, or one added in front of it; two neighbours replaced, or exchanged.
 pub data Damage : Type 0 where
   replace : (place new : ℕ) → Damage
   lose : (place : ℕ) → Damage
   add : (place new : ℕ) → Damage
+  replaceTwo : (place new next : ℕ) → Damage
+  exchange : (place : ℕ) → Damage
+
+-- At place i of d, n bytes give way to the bytes w.
+abbrev pub instead : ℕ → ℕ → List ℕ → List ℕ → List ℕ
+instead i n w d = take i d ++ (w ++ drop (i + n) d)
 
 abbrev pub damaged : Damage → List ℕ → List ℕ
-damaged (replace i y) d = take i d ++ y ∷ drop (suc i) d
-damaged (lose i) d = take i d ++ drop (suc i) d
-damaged (add i y) d = take i d ++ y ∷ drop i d
+damaged (replace i y) d = instead i 1 (y ∷ []) d
+damaged (lose i) d = instead i 1 [] d
+damaged (add i y) d = instead i 0 (y ∷ []) d
+damaged (replaceTwo i y z) d = instead i 2 (y ∷ z ∷ []) d
+damaged (exchange i) d = instead i 2 (getD d (suc i) 0 ∷ getD d i 0 ∷ []) d
 
--- Places 5 to 272 of a dump are its data bytes, 273 its checksum. A byte replaced differs; a byte added is not real time.
+-- Places 5 to 272 of a dump are its data bytes, 273 its checksum, 274 its closing F7H. A byte replaced differs; a byte added is not real time.
+-- Document 02 (xiii): the two nibbles of one packed byte are replaced by values below 80H, not both by themselves; two unequal neighbours among the
+-- data and the checksum are exchanged. More is allowed here: any two neighbouring data bytes, any values but F0H 10H, which begin a message of ours;
+-- any neighbours behind the F0H.
 abbrev pub Allowed : Damage → List ℕ → Type 0
 Allowed (replace i y) d = (5 ≤ i) × (i < 274) × (y ≡ getD d i 0 → ⊥)
 Allowed (lose i) d = (5 ≤ i) × (i < 274)
 Allowed (add i y) d = (5 ≤ i) × (i < 274) × (y < 0xF8)
+Allowed (replaceTwo i y z) d = (5 ≤ i) × (suc i < 273) × (y ≡ getD d i 0 → z ≡ getD d (suc i) 0 → ⊥) × (y ≡ 0xF0 → z ≡ 0x10 → ⊥)
+Allowed (exchange i) d = (1 ≤ i) × (suc i < 275) × (getD d i 0 ≡ getD d (suc i) 0 → ⊥)
 
 abbrev pub keep : (Report → Bool) → List Report → List Report
 keep t [] = []
@@ -62,7 +75,7 @@ abbrev pub readings : List ℕ → List ℕ → List Report → List (Effect Rea
 readings s lent = map (λ r. read judge s (r .start) lent)
 
 -- A stream that has the bytes d between others, and the three parts of its reports: those that start before d's F0H,
--- those that start from it on and before d's closing F7H, and those that start behind that F7H.
+-- those that start from it on and before d's last byte, and those that start behind that.
 module _ (before d behind : List ℕ) where
   abbrev pub stream : List ℕ
   stream = before ++ (d ++ behind)
@@ -102,9 +115,12 @@ pub record Contained (before d e behind : List ℕ) (v : Verdict) : Type 0 where
   pub read-damaged : (lent : List ℕ)
       → All (λ r. Spoilt lent r) (readings (stream before e behind) lent (reportsOfDump before e behind))
 
--- Demand 3, whole: a dump of a patch, numbered or for the edit buffer, as its writer takes and writes it.
-abbrev pub Demand3 : Type 0
-Demand3 = (k : Dump) → Filed (ofDump k) → k .packed ≡ aPatch
+-- What is said of every dump of a patch, numbered or for the edit buffer, as its writer takes and writes it, and of its record.
+abbrev pub EveryPatchDump : (List ℕ → Verdict → Type 0) → Type 0
+EveryPatchDump Holds = (k : Dump) → Filed (ofDump k) → k .packed ≡ aPatch
     → (b p : List ℕ) → Given (ofDump k) b p → tested (givenRows (ofDump k) b p) ≡ outcome 0 0
-    → (before behind : List ℕ) (x : Damage) → Allowed x (message (ofDump k) b p)
-    → Contained before (message (ofDump k) b p) (damaged x (message (ofDump k) b p)) behind (recordFor (ofDump k) b p)
+    → Holds (message (ofDump k) b p) (recordFor (ofDump k) b p)
+
+-- Demand 3, whole.
+abbrev pub Demand3 : Type 0
+Demand3 = EveryPatchDump (λ d v. (before behind : List ℕ) (x : Damage) → Allowed x d → Contained before d (damaged x d) behind v)

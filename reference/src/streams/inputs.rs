@@ -64,8 +64,8 @@ pub fn out_of_range_patch(random: &mut Random) -> [u8; PATCH_LENGTH] {
     patch
 }
 
-/// A place of a patch, half the time in a bus: the buses stand last, and the lowest bad place is the
-/// one answered.
+/// A place of a patch, half the time in a bus: the buses stand last, and the lowest bad place is
+/// the one answered.
 fn any_place(random: &mut Random) -> usize {
     if random.one_in(2) {
         random.within(BUSES..=PATCH_LENGTH - 1)

@@ -23,7 +23,7 @@ const fn kind(name: &'static str, piece: Piece) -> Kind {
 }
 
 /// The kinds, in the order in which seeds pick them.
-static KINDS: [Kind; 33] = [
+static KINDS: [Kind; 35] = [
     kind("nearly nothing", pieces::nearly_nothing),
     kind("single patch", pieces::single_patch),
     kind("edit buffer", pieces::edit_buffer),
@@ -35,6 +35,8 @@ static KINDS: [Kind; 33] = [
     kind("byte replaced", pieces::replaced),
     kind("byte lost", pieces::lost),
     kind("byte inserted", pieces::inserted),
+    kind("neighbours exchanged", pieces::exchanged),
+    kind("nibble pair replaced", pieces::pair_replaced),
     kind("two damages", pieces::two_damages),
     kind("three damages", pieces::three_damages),
     kind("mutated", pieces::mutated),

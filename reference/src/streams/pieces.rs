@@ -1,6 +1,6 @@
 //! What streams are made of: messages good, bad, foreign and broken, and noise.
 
-use super::damage::Damage;
+use super::damage::{low_nibble, Damage};
 use super::{inputs, Random};
 use crate::frames::{END, START};
 use crate::kinds::{opcode, MASTER_LENGTH, MATRIX, OBERHEIM, VERSION};
@@ -77,6 +77,15 @@ fn patch_dump(random: &mut Random, out: &mut Vec<u8>) {
     patch_dump_of(random, &patch, out);
 }
 
+/// A dump of any kind.
+fn any_dump(random: &mut Random, out: &mut Vec<u8>) {
+    if random.one_in(3) {
+        master(random, out);
+    } else {
+        patch_dump(random, out);
+    }
+}
+
 /// An accepted message of any kind.
 pub(super) fn good_message(random: &mut Random, out: &mut Vec<u8>) {
     const KINDS: [Piece; 5] = [single_patch, edit_buffer, master, remote_edit, bus_edit];
@@ -137,11 +146,7 @@ pub(super) fn half_used(random: &mut Random, out: &mut Vec<u8>) {
 /// A high nibble moved by 8, so that the sum stays.
 pub(super) fn high_nibble_moved(random: &mut Random, out: &mut Vec<u8>) {
     let start = out.len();
-    if random.one_in(3) {
-        master(random, out);
-    } else {
-        patch_dump(random, out);
-    }
+    any_dump(random, out);
     let bytes = (out.len() - start - 7) / 2;
     let at = start + 6 + 2 * random.below(bytes);
     out[at] ^= 0x08;
@@ -158,11 +163,7 @@ pub(super) fn master_nibble(random: &mut Random, out: &mut Vec<u8>) {
 /// A dump with data bytes above 15, the sum right or not.
 pub(super) fn wide_data(random: &mut Random, out: &mut Vec<u8>) {
     let start = out.len();
-    if random.one_in(3) {
-        master(random, out);
-    } else {
-        patch_dump(random, out);
-    }
+    any_dump(random, out);
     for _ in 0..random.within(1..=3) {
         let at = random.within(start + 5..=out.len() - 3);
         out[at] |= random.pick(&[0x10, 0x20, 0x40, 0x70]);
@@ -390,6 +391,103 @@ pub(super) fn inserted(random: &mut Random, out: &mut Vec<u8>) {
     patch_dump(random, out);
     let at = random.within(start + 5..=out.len() - 2);
     Damage::insert(random, at).apply(out);
+}
+
+/// A dump with unequal neighbours exchanged among its data and checksum, or anywhere, header and
+/// end included. Sometimes two bytes two apart, whose exchange the sum doesn't show.
+pub(super) fn exchanged(random: &mut Random, out: &mut Vec<u8>) {
+    let start = out.len();
+    any_dump(random, out);
+    let places = start + 5..out.len() - 1;
+    let damage = match random.below(8) {
+        0 => {
+            let at = random.within(places.start..=places.end - 4);
+            out.swap(at, at + 2);
+            None
+        }
+        1 => Damage::exchange(random, out, start..out.len()),
+        _ => Damage::exchange(random, out, places),
+    };
+    if let Some(damage) = damage {
+        damage.apply(out);
+    }
+    if random.one_in(8) {
+        sprinkle(random, start, out);
+    }
+}
+
+/// A dump with two neighbouring data bytes replaced, mostly the nibbles of one packed byte.
+pub(super) fn pair_replaced(random: &mut Random, out: &mut Vec<u8>) {
+    let start = out.len();
+    match random.below(8) {
+        0 => edit_begun_in_patch(random, out),
+        1 => edit_begun_in_master(random, out),
+        2 => last_nibble_and_sum(random, out),
+        _ => {
+            any_dump(random, out);
+            let data = start + 5..out.len() - 2;
+            if let Some(damage) = Damage::replace_two(random, out, data) {
+                damage.apply(out);
+            }
+        }
+    }
+    if random.one_in(8) {
+        sprinkle(random, start, out);
+    }
+}
+
+/// A patch dump with F0H and 10H put before data that read 06H and an edit's opcode. Only byte 26
+/// and the one behind it allow that, too far from the end for an edit.
+fn edit_begun_in_patch(random: &mut Random, out: &mut Vec<u8>) {
+    let mut patch = inputs::good_patch(random);
+    let mut at = low_nibble(out.len(), 25);
+    if random.one_in(2) {
+        patch[26] = 0x66;
+    } else {
+        patch[26] = 0x60 | random.byte_within(0..=15);
+        patch[27] = random.pick(&[0x06, 0x0B, 0x36, 0x3B]);
+        at += 1;
+    }
+    patch_dump_of(random, &patch, out);
+    begin_header(at, out);
+}
+
+/// A master whose last data and checksum read as an edit behind F0H and 10H put before them.
+fn edit_begun_in_master(random: &mut Random, out: &mut Vec<u8>) {
+    let (last, sum) = if random.one_in(2) {
+        let [parameter, value] = inputs::good_edit(random);
+        (vec![MATRIX, opcode::REMOTE_EDIT, parameter], value)
+    } else {
+        let [bus, source, amount, destination] = inputs::good_bus_edit(random);
+        let last = vec![MATRIX, opcode::BUS_EDIT, bus, source, amount];
+        (last, destination)
+    };
+    let mut data = inputs::bytes(random, 2 * MASTER_LENGTH - last.len());
+    data.extend_from_slice(&last);
+    data.iter_mut().for_each(|byte| *byte &= 0x0F);
+
+    let mut packed = [0; MASTER_LENGTH];
+    nibbles::pack(&data, &mut packed);
+    // The first byte makes the sum what it is to be.
+    packed[0] = packed[0].wrapping_add(sum.wrapping_sub(nibbles::sum(&packed)));
+    dump(opcode::MASTER, VERSION, &packed, out);
+    begin_header(out.len() - 2 - last.len() - 2, out);
+}
+
+/// F0H and 10H in place of two bytes.
+fn begin_header(at: usize, out: &mut Vec<u8>) {
+    let bytes = [START, OBERHEIM];
+    Damage::ReplaceTwo { at, bytes }.apply(out);
+}
+
+/// A patch dump with its last nibble and its checksum replaced so that they fit each other.
+fn last_nibble_and_sum(random: &mut Random, out: &mut Vec<u8>) {
+    patch_dump(random, out);
+    let at = out.len() - 3;
+    let nibble = random.byte_within(0..=2);
+    let more = nibble.wrapping_sub(out[at]).wrapping_mul(16);
+    out[at] = nibble;
+    out[at + 1] = out[at + 1].wrapping_add(more) & 0x7F;
 }
 
 /// A written patch dump with two damages.

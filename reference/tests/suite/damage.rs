@@ -1,105 +1,12 @@
-//! Demand 3, checked for every single damage to a few dumps in a few streams.
+//! Demand 3, checked for every byte replaced, lost or added in a few dumps in a few streams, and
+//! for damages of all sorts in many.
 
 use reference::streams::damage::{damageable, Damage};
 use reference::streams::{inputs, stream, Random};
-use reference::{
-    apply_bus_edit, read, reports, set_name, walk, write_edit_buffer, write_master, write_patch,
-    Reading, Report,
-};
+use reference::{walk, write_edit_buffer, write_master, write_patch};
 
-use crate::kit::{bus_message, outcome, report, written, P};
-
-/// The lengths of buffers lent for reading.
-const LENT: [usize; 5] = [0, 133, 134, 172, 200];
-
-/// A stream with a written dump in it.
-struct Undamaged {
-    stream: Vec<u8>,
-    start: usize,
-    end: usize,
-    before: Vec<Report>,
-    after: Vec<Report>,
-}
-
-impl Undamaged {
-    fn new(before: &[u8], dump: &[u8], after: &[u8]) -> Self {
-        let stream = [before, dump, after].concat();
-        let (start, end) = (before.len(), before.len() + dump.len());
-        let (before, rest): (Vec<_>, Vec<_>) =
-            reports(&stream).partition(|report| report.start < start);
-        // The dump has one report, with answer 0.
-        let opcode = usize::from(dump[3]);
-        assert_eq!(rest[0], report(start, end, 0, opcode));
-        let after = rest[1..].to_vec();
-        assert!(after.iter().all(|report| report.start >= end));
-        Self {
-            stream,
-            start,
-            end,
-            before,
-            after,
-        }
-    }
-
-    /// The claim of demand 3 for one damage.
-    fn survives(&self, damage: Damage) {
-        let mut damaged = self.stream.clone();
-        damage.apply(&mut damaged);
-        // Where a place behind the damage has moved to.
-        let moved = |place: usize| place + damaged.len() - self.stream.len();
-
-        let mut found = reports(&damaged).peekable();
-        for before in &self.before {
-            assert_eq!(found.next().as_ref(), Some(before), "{damage:?}");
-            self.reads_alike(before.start, &damaged, before.start, false);
-        }
-        let end = moved(self.end);
-        while let Some(own) = found.next_if(|report| report.start < end) {
-            assert!(own.start >= self.start);
-            assert_ne!(own.answer, 0, "{damage:?}");
-            yields_nothing(&damaged, own.start);
-        }
-        for after in &self.after {
-            let expected = Report {
-                start: moved(after.start),
-                end: moved(after.end),
-                ..*after
-            };
-            assert_eq!(found.next(), Some(expected), "{damage:?}");
-            self.reads_alike(after.start, &damaged, expected.start, true);
-        }
-        assert_eq!(found.next(), None, "{damage:?}");
-    }
-
-    /// Reading from a report before or behind gives the same from both streams.
-    fn reads_alike(&self, place: usize, damaged: &[u8], moved: usize, behind: bool) {
-        for length in LENT {
-            let mut one = [0xA5; 200];
-            let mut other = one;
-            let first = read(&self.stream, place, &mut one[..length]);
-            let second = read(damaged, moved, &mut other[..length]);
-            assert_eq!(one, other);
-            let counted = |reading: Reading, stream: &[u8]| {
-                let from = if behind { stream.len() } else { 0 };
-                (reading.start.abs_diff(from), reading.end.abs_diff(from))
-            };
-            assert_eq!(counted(first, &self.stream), counted(second, damaged));
-            assert_eq!((first.answer, first.detail), (second.answer, second.detail));
-            assert_eq!(first.bytes, second.bytes);
-        }
-    }
-}
-
-/// Reading from a report of the damaged dump gives neither 0 nor 13 and keeps the buffer.
-fn yields_nothing(damaged: &[u8], place: usize) {
-    for length in LENT {
-        let mut buffer = [0xA5; 200];
-        let reading = read(damaged, place, &mut buffer[..length]);
-        assert!(![0, 13].contains(&reading.answer));
-        assert_eq!(reading.bytes, [0; 4]);
-        assert_eq!(buffer, [0xA5; 200]);
-    }
-}
+use crate::kit::{bass, bus_message, glide, report, written, P};
+use crate::undamaged::Undamaged;
 
 /// Every single damage to a dump in a stream.
 fn survives_all(before: &[u8], dump: &[u8], after: &[u8]) {
@@ -112,13 +19,6 @@ fn survives_all(before: &[u8], dump: &[u8], after: &[u8]) {
         count += 1;
     }
     assert_eq!(count, 269 * (255 + 248 + 1));
-}
-
-/// P named `BASS 1  `.
-fn bass() -> [u8; 134] {
-    let mut patch = P;
-    assert_eq!(set_name(&mut patch, b"BASS 1  "), outcome(0, 0));
-    patch
 }
 
 #[test]
@@ -161,10 +61,7 @@ fn a_dump_whose_sum_is_the_manufacturer() {
 
 #[test]
 fn dumps_that_route_a_lever_to_portamento_time() {
-    let mut patch = bass();
-    for bus in [0, 9] {
-        assert_eq!(apply_bus_edit(&mut patch, bus, 18, 0x14, 32), outcome(0, 0));
-    }
+    let patch = glide();
     let number = written(|out| write_patch(41, &patch, out));
     let buffer = written(|out| write_edit_buffer(&patch, out));
     let taken = bus_message([9, 20, 0x40, 32]);
@@ -188,7 +85,7 @@ fn dumps_in_streams_of_many_seeds() {
             continue;
         }
         let undamaged = Undamaged::new(&before, &dump, &after);
-        for _ in 0..6 {
+        for _ in 0..10 {
             let places = damageable(undamaged.start);
             undamaged.survives(Damage::any(&mut random, &undamaged.stream, places));
         }

@@ -1,6 +1,6 @@
 //! What the tests share.
 
-use reference::{read, Outcome, Reading, Report};
+use reference::{apply_bus_edit, read, set_name, Outcome, Reading, Report};
 
 /// Document 01's P: zeros with byte 76 = 1.
 pub const P: [u8; 134] = {
@@ -8,6 +8,31 @@ pub const P: [u8; 134] = {
     patch[76] = 1;
     patch
 };
+
+/// P named `BASS 1  `.
+pub fn bass() -> [u8; 134] {
+    let mut patch = P;
+    assert_eq!(set_name(&mut patch, b"BASS 1  "), outcome(0, 0));
+    patch
+}
+
+/// The same with a lever routed to Portamento Time by the first bus and the last.
+pub fn glide() -> [u8; 134] {
+    let mut patch = bass();
+    for bus in [0, 9] {
+        assert_eq!(apply_bus_edit(&mut patch, bus, 18, 0x14, 32), outcome(0, 0));
+    }
+    patch
+}
+
+/// A patch with this sum. Byte 26 makes it up, since it takes all seven bits.
+pub fn with_sum(patch: [u8; 134], sum: u8) -> [u8; 134] {
+    let mut patch = patch;
+    patch[26] = 0;
+    let others: usize = patch.iter().map(|&byte| usize::from(byte)).sum();
+    patch[26] = ((usize::from(sum) + 128 - others % 128) % 128) as u8;
+    patch
+}
 
 /// An answer with its detail.
 pub const fn outcome(answer: u8, detail: usize) -> Outcome {

@@ -3,13 +3,13 @@
 use std::collections::BTreeSet;
 
 use reference::streams::{inputs, kind_of, stream, Random, CYCLE};
-use reference::{apply_bus_edit, nibbles, reports, test_patch, Outcome};
+use reference::{apply_bus_edit, nibbles, reports, test_patch, Outcome, Report};
 
 use crate::kit::{less_real_time, outcome, P};
 
 #[test]
 fn a_seed_always_makes_the_same_stream() {
-    for seed in [0, 1, 98, 12_345, u64::MAX] {
+    for seed in [0, 1, CYCLE - 1, 12_345, u64::MAX] {
         assert_eq!(stream(seed), stream(seed));
     }
     assert_ne!(stream(1), stream(1 + CYCLE));
@@ -20,7 +20,7 @@ fn consecutive_seeds_cover_every_kind_and_size() {
     for from in [0, 57, 1_000_000] {
         let seeds = from..from + CYCLE;
         let kinds: BTreeSet<_> = seeds.clone().map(kind_of).collect();
-        assert_eq!(kinds.len(), 34);
+        assert_eq!(kinds.len(), 36);
         let lengths: Vec<_> = seeds.map(|seed| stream(seed).len()).collect();
         for size in [65_535, 65_536, 65_537] {
             assert_eq!(lengths.iter().filter(|&&length| length == size).count(), 1);
@@ -140,5 +140,76 @@ fn inputs_reach_the_last_destination_and_the_next() {
     for met in MET {
         assert!(patches.contains(&met), "{met:?}");
         assert!(edits.contains(&met), "{met:?}");
+    }
+}
+
+/// The reports of all streams of a kind, each with its message less real time.
+fn reports_in(kind: &str) -> Vec<(Report, Vec<u8>)> {
+    let seeds = (0..100 * CYCLE).filter(|&seed| kind_of(seed) == kind);
+    let found = seeds.flat_map(|seed| {
+        let input = stream(seed);
+        let message = |report: &Report| less_real_time(&input[report.start..report.end]);
+        let found: Vec<_> = reports(&input).collect();
+        let messages: Vec<_> = found.iter().map(message).collect();
+        found.into_iter().zip(messages)
+    });
+    found.collect()
+}
+
+/// Opcode, answer and detail of the dumps among them that are refused.
+fn refused_dumps(kind: &str) -> BTreeSet<(u8, u8, usize)> {
+    let found = reports_in(kind);
+    let refused = found.iter().filter(|(report, _)| report.answer >= 9);
+    let told = refused.map(|(report, message)| (message[3], report.answer, report.detail));
+    told.collect()
+}
+
+#[test]
+fn streams_meet_the_refusals_of_exchanged_neighbours() {
+    let found = refused_dumps("neighbours exchanged");
+    for (opcode, last_nibble) in [(0x01, 267), (0x0D, 267), (0x03, 343)] {
+        assert!(found.contains(&(opcode, 9, last_nibble)));
+        assert!(found.contains(&(opcode, 10, 0)));
+    }
+}
+
+#[test]
+fn streams_meet_the_refusals_of_nibble_pairs() {
+    let found = refused_dumps("nibble pair replaced");
+    let count = |opcode, answer| {
+        let told = found
+            .iter()
+            .filter(|told| (told.0, told.1) == (opcode, answer));
+        told.count()
+    };
+    for opcode in [0x01, 0x0D] {
+        assert!(count(opcode, 9) > 10);
+        assert_eq!(count(opcode, 10), 1);
+        assert!(count(opcode, 11) > 10);
+    }
+    // A master has no field test.
+    assert!(count(0x03, 9) > 10);
+    assert_eq!(count(0x03, 10), 1);
+    assert_eq!(count(0x03, 11), 0);
+}
+
+#[test]
+fn streams_begin_edits_inside_dumps() {
+    let mut found = BTreeSet::new();
+    for pair in reports_in("nibble pair replaced").windows(2) {
+        let [(outer, dump), (inner, edit)] = pair else {
+            unreachable!("windows of two");
+        };
+        let inside = outer.answer == 3 && outer.end == inner.start;
+        if let ([_, _, _, around, ..], [0xF0, 0x10, 0x06, opcode @ (0x06 | 0x0B), ..], true) =
+            (&dump[..], &edit[..], inside)
+        {
+            found.insert((*around, *opcode, inner.answer));
+        }
+    }
+    for opcode in [0x06, 0x0B] {
+        // In a master it can be accepted; in a patch its length is wrong.
+        assert!(found.contains(&(0x03, opcode, 0)));
+        assert!(found.contains(&(0x01, opcode, 7)) && found.contains(&(0x0D, opcode, 7)));
     }
 }

@@ -3,9 +3,15 @@
 use std::fs;
 use std::path::{Path, PathBuf};
 
-use reference::{apply_bus_edit, apply_edit, listing, reports, show_name};
+use reference::streams::damage::{low_nibble, Damage};
+use reference::{apply_bus_edit, apply_edit, listing, nibbles, reports, show_name, test_patch};
 
 use crate::kit::{outcome, record, P};
+
+/// The names of the dumps in most of them.
+const BASS: &str = "BASS 1  ";
+const STRINGS: &str = "STRINGS ";
+const LEAD: &str = "LEAD [2]";
 
 fn directory() -> PathBuf {
     Path::new(env!("CARGO_MANIFEST_DIR")).join("vectors")
@@ -50,13 +56,65 @@ fn name_at(input: &[u8], place: usize) -> String {
 
 #[test]
 fn dumps_carry_their_names() {
-    assert_eq!(name_at(&vector("single_patch"), 0), "BASS 1  ");
-    assert_eq!(name_at(&vector("edit_buffer"), 0), "STRINGS ");
-    let bank = vector("bank_of_three");
-    let found: Vec<String> = reports(&bank)
-        .map(|report| name_at(&bank, report.start))
-        .collect();
-    assert_eq!(found, ["BASS 1  ", "STRINGS ", "LEAD [2]"]);
+    assert_eq!(name_at(&vector("single_patch"), 0), BASS);
+    assert_eq!(name_at(&vector("edit_buffer"), 0), STRINGS);
+    assert_eq!(bank_names(&vector("bank_of_three")), [BASS, STRINGS, LEAD]);
+}
+
+/// The names in a stream of accepted dumps.
+fn bank_names(bank: &[u8]) -> Vec<String> {
+    reports(bank)
+        .map(|report| name_at(bank, report.start))
+        .collect()
+}
+
+#[test]
+fn neighbours_exchanged_once_more_are_the_dumps_as_written() {
+    let mut stream = vector("neighbours_exchanged");
+    // Only the sum shows these; all their bytes are in range.
+    for start in [275, 825, 1650] {
+        let mut patch = [0; 134];
+        nibbles::pack(&stream[start + 5..], &mut patch);
+        assert_eq!(test_patch(&patch), outcome(0, 0));
+    }
+    // In byte 26, across bytes 2 and 3, and twice the last nibble with the checksum.
+    for (at, exchanged) in [
+        (275 + 57, [0x04, 0x06]),
+        (825 + 10, [0x03, 0x01]),
+        (1100 + 272, [0x22, 0x00]),
+        (1650 + 272, [0x01, 0x00]),
+    ] {
+        assert_eq!(stream[at..at + 2], exchanged);
+        Damage::Exchange { at }.apply(&mut stream);
+    }
+    assert_eq!(
+        bank_names(&stream),
+        [BASS, STRINGS, LEAD, BASS, STRINGS, LEAD, STRINGS, BASS]
+    );
+}
+
+#[test]
+fn nibble_pairs_put_back_are_the_dumps_as_written() {
+    let mut stream = vector("nibble_pair");
+    for (start, packed, bytes) in [
+        (275, 105, [0x04, 0x01]),
+        (550, 105, [0x04, 0x01]),
+        (1100, 105, [0x04, 0x01]),
+        (1375, 105, [0x04, 0x01]),
+        (1650, 76, [0x09, 0x00]),
+        (1925, 133, [0x00, 0x02]),
+        (2200, 0, [0x02, 0x00]),
+    ] {
+        let at = low_nibble(start, packed);
+        assert!(stream[at..at + 2].is_ascii());
+        assert_ne!(stream[at..at + 2], bytes);
+        Damage::ReplaceTwo { at, bytes }.apply(&mut stream);
+        assert_eq!(record(&stream, start).1[packed], bytes[0] + 16 * bytes[1]);
+    }
+    assert_eq!(
+        bank_names(&stream),
+        [BASS, BASS, BASS, STRINGS, BASS, BASS, STRINGS, LEAD, BASS, LEAD]
+    );
 }
 
 #[test]

@@ -1,0 +1,197 @@
+//! Wider than document 02: neighbours exchanged anywhere behind a dump's F0H, and any two values in
+//! place of two neighbouring data bytes.
+
+use std::collections::BTreeSet;
+
+use reference::streams::damage::Damage;
+use reference::streams::{inputs, Random};
+use reference::{Outcome, Report};
+
+use crate::kit::{outcome, report, with_sum};
+use crate::model;
+use crate::neighbours::exchanged;
+use crate::undamaged::{by_turns, dumps, placed, surroundings, Undamaged, DATA};
+
+/// The report of a dump with unequal neighbours exchanged anywhere behind its F0H.
+fn slipped(undamaged: &Undamaged, at: usize) -> Report {
+    let Undamaged { start, end, .. } = *undamaged;
+    let dump = &undamaged.stream[start..end];
+    let (opcode, number) = (dump[3], dump[4]);
+    let Outcome { answer, detail } = match at - start {
+        1 => outcome(4, 0),
+        2 => outcome(5, 0),
+        // The number stands as the opcode; 0DH then has 01H where its zero should be.
+        3 => match number {
+            0x03 | 0x06 | 0x0B => outcome(7, 0),
+            0x0D => outcome(8, 0),
+            _ => outcome(6, 0),
+        },
+        4 if opcode == 0x0D => outcome(8, 0),
+        4 if number > 15 => outcome(9, 0),
+        4 => outcome(10, 0),
+        // The checksum stands behind the F7H, outside.
+        273 => return report(start, end - 1, 7, 0),
+        offset => exchanged(offset - 5, dump[offset + 1]),
+    };
+    report(start, end, answer, detail)
+}
+
+#[test]
+fn exchanges_anywhere_behind_the_start() {
+    let mut random = Random::new(63);
+    for number in 0..100 {
+        let patch = inputs::good_patch(&mut random);
+        for dump in dumps(number, &patch) {
+            for (before, after) in surroundings() {
+                let undamaged = Undamaged::new(&before, &dump, &after);
+                let places = undamaged.start + 1..undamaged.end;
+                for damage in Damage::every_exchange(&undamaged.stream, places) {
+                    let Damage::Exchange { at } = damage else {
+                        panic!("{damage:?}");
+                    };
+                    let expected = slipped(&undamaged, at);
+                    assert_eq!(undamaged.survives(damage), [expected], "{damage:?}");
+                }
+            }
+        }
+    }
+}
+
+/// Whether the range at a place allows a byte.
+fn allows(fields: &[(Option<u8>, i32, i32)], place: usize, byte: u8) -> bool {
+    let (_, least, greatest) = fields[place];
+    let stored = i32::from(byte);
+    let value = if least < 0 && stored >= 128 {
+        stored - 256
+    } else {
+        stored
+    };
+    (least..=greatest).contains(&value)
+}
+
+/// The indices at which the ranges allow data to read 06H and then this nibble.
+fn reads_06h_then(nibble: u8) -> Vec<usize> {
+    let fields = model::fields();
+    let reads = |index: usize| {
+        let place = index / 2;
+        if index.is_multiple_of(2) {
+            return allows(&fields, place, 0x06 + 16 * nibble);
+        }
+        (0x60..=0x6F).any(|byte| allows(&fields, place, byte))
+            && (0..16).any(|high| allows(&fields, place + 1, nibble + 16 * high))
+    };
+    (0..DATA - 1).filter(|&index| reads(index)).collect()
+}
+
+#[test]
+fn where_a_patch_reads_as_the_header_of_an_edit() {
+    // An edit that ends with the dump has its 06H at 265 or 263: F0H, 10H, 06H, 06H, the last
+    // nibble, the checksum; and for 0BH two nibbles more. Only byte 26 has a high nibble of 6.
+    assert_eq!(reads_06h_then(0x06), [52, 53]);
+    assert_eq!(reads_06h_then(0x0B), [53]);
+}
+
+/// Patches whose data read as headers wherever the ranges allow it: as an edit's at byte 26, as a
+/// dump's or another message's in the last bus. The last three have sums that go with one.
+fn headers() -> [[u8; 134]; 6] {
+    let mut random = Random::new(64);
+    let mut patch = |vcf: [u8; 2], bus: [u8; 3]| {
+        let mut patch = inputs::good_patch(&mut random);
+        patch[26..28].copy_from_slice(&vcf);
+        patch[131..].copy_from_slice(&bus);
+        patch
+    };
+    [
+        patch([0x66, 0x06], [6, 0x36, 0x16]),
+        patch([0x60, 0x36], [6, 0x16, 0x06]),
+        patch([0x6F, 0x2B], [6, 0xD6, 0x16]),
+        with_sum(patch([0, 0], [6, 0x06, 0x06]), 0x06),
+        with_sum(patch([0, 0], [6, 0xF6, 0x16]), 0x10),
+        // 0EH with a patch number, a bank and a unit: of the right length, but not among the five.
+        with_sum(patch([0, 0], [6, 0xE6, 0x01]), 0x00),
+    ]
+}
+
+/// What a message is answered that F0H and 10H begin inside a dump, before these bytes.
+fn begun(behind: &[u8]) -> u8 {
+    match behind {
+        [0x06, 0x01 | 0x03 | 0x06 | 0x0B | 0x0D, ..] => 7,
+        [0x06, ..] => 6,
+        _ => 5,
+    }
+}
+
+#[test]
+fn a_header_begun_at_every_place() {
+    let mut random = Random::new(65);
+    let many = (0..200).map(|_| inputs::good_patch(&mut random));
+    let mut met = BTreeSet::new();
+    for patch in headers().into_iter().chain(many) {
+        for undamaged in placed(&patch) {
+            let Undamaged { start, end, .. } = undamaged;
+            for (index, at) in undamaged.data().enumerate().take(DATA - 1) {
+                let bytes = [0xF0, 0x10];
+                let answer = begun(&undamaged.stream[at + 2..end]);
+                assert_eq!(
+                    undamaged.survives(Damage::ReplaceTwo { at, bytes }),
+                    [report(start, at, 3, 0), report(at, end, answer, 0)]
+                );
+                met.insert((index, answer));
+            }
+        }
+    }
+    // An edit's header has too much behind it, a dump's in the last bus too little.
+    assert!(met.is_superset(&[(50, 7), (51, 7), (262, 7), (264, 7), (266, 6)].into()));
+    assert!(!met.contains(&(261, 7)) && !met.contains(&(263, 7)));
+}
+
+#[test]
+#[cfg_attr(debug_assertions, ignore = "slow without optimisation")]
+fn every_two_values_at_a_few_places() {
+    for undamaged in by_turns(&headers()) {
+        for index in [0, 50, 51, 52, 261, 262, 263, 264, 265, 266] {
+            let mut count = 0;
+            let at = undamaged.data().start + index;
+            for damage in Damage::every_wide_pair(&undamaged.stream, at) {
+                undamaged.survives(damage);
+                count += 1;
+            }
+            assert_eq!(count, 256 * 256 - 1);
+        }
+    }
+}
+
+#[test]
+fn hostile_values_at_every_place() {
+    const VALUES: [u8; 12] = [
+        0x00, 0x06, 0x0B, 0x10, 0x7F, 0x80, 0xEF, 0xF0, 0xF6, 0xF7, 0xF8, 0xFF,
+    ];
+    for undamaged in by_turns(&headers()) {
+        for at in undamaged.data().take(DATA - 1) {
+            let old = &undamaged.stream[at..at + 2];
+            let pairs = VALUES
+                .iter()
+                .flat_map(|&one| VALUES.map(|other| [one, other]));
+            for bytes in pairs.filter(|pair| pair != old) {
+                undamaged.survives(Damage::ReplaceTwo { at, bytes });
+            }
+        }
+    }
+}
+
+#[test]
+fn random_values_at_every_place() {
+    let mut random = Random::new(66);
+    for round in 0..100 {
+        let patch = inputs::good_patch(&mut random);
+        for undamaged in placed(&patch).into_iter().skip(round % 2).step_by(2) {
+            for at in undamaged.data().take(DATA - 1) {
+                let mut bytes = [random.byte(), random.byte()];
+                if undamaged.stream[at..at + 2] == bytes {
+                    bytes[0] ^= 0x80;
+                }
+                undamaged.survives(Damage::ReplaceTwo { at, bytes });
+            }
+        }
+    }
+}
