@@ -1,4 +1,4 @@
--- The listing example of document 01, computed: the reports of eleven bytes, with their places and answers. And a patch of which demand 3 speaks.
+-- A patch of which demand 3 and the slipped neighbours speak.
 use mathlib.Core.Path.{_≡_, refl}
 use mathlib.Core.List.{List, [], _∷_}
 use Prim.Native.Nat.{ℕ}

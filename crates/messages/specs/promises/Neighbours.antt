@@ -21,6 +21,6 @@ replacedRefusal j a b y z =
     (cond (ltb 15 z) (outcome 9 (suc j))
     (cond (eqb (j % 2) 0) (nibblesRefusal (j / 2) a b y z) (nibblesRefusal (j / 2) b a z y)))
 
--- Exchanged, so that the second of them, b, is now the first. Only a checksum is above 15, so 9 tells of it and the last nibble.
+-- Exchanged, so that the second of them, b, is now the first. Above 15 it is the checksum, in the place of the last nibble.
 abbrev pub exchangedRefusal : (j b : ℕ) → Outcome
 exchangedRefusal j b = cond (ltb 15 b) (outcome 9 j) (outcome 10 0)
