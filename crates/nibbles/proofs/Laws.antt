@@ -73,13 +73,6 @@ unfolding nibbles
 nibbles-narrow [] a = tt
 nibbles-narrow (b ∷ p) a = let h = a .0 in (omega arith, (omega arith, nibbles-narrow p (a .1)))
 
--- Nibbles below 16 pack to bytes below 256.
-pub pack-bytes : (ns : List ℕ) → All (λ b. b < 16) ns → All (λ b. b < 256) (pack ns)
-unfolding pack
-pack-bytes [] a = tt
-pack-bytes (low ∷ []) a = tt
-pack-bytes (low ∷ high ∷ ns) a = let h = a .0 in let k = a .1 .0 in (omega arith, pack-bytes ns (a .1 .1))
-
 -- The first wide byte.
 
 -- At a wide byte its index is the answer.

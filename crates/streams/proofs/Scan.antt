@@ -103,12 +103,6 @@ module _ (judge : List ℕ → Verdict) where
   scan-data (b ∷ u) a p f c s =
       rw (a .0, further p (length u)) (scan-data u (a .1) (suc p) f (c ++ (b ∷ [])) s ∙ rw (append-snoc c b u))
 
-  -- Data bytes outside a message are skipped.
-  pub skip-data : (u : List ℕ) → All DataByte u → (p : ℕ) (s : List ℕ)
-      → scan judge p outside (u ++ s) ≡ scan judge (p + length u) outside s
-  skip-data [] a p s = rw (add-zero p)
-  skip-data (b ∷ u) a p s = rw (a .0, further p (length u)) (skip-data u (a .1) (suc p) s)
-
   emit-moved : (k : ℕ) (q : ByteKind) (p : ℕ) (st : State) → map (move k) (emit judge q p st) ≡ emit judge q (k + p) (moved k st)
   emit-moved k q p outside = refl
   emit-moved k dataByte p (inside f c) = refl
