@@ -28,12 +28,11 @@ pub record Laid (before d behind : List ℕ) (m : List Report) : Type 0 where
   pub whole : reports judge (stream before d behind) ≡ ahead judge 0 outside before ++ (m ++ scan judge (length before + length d) outside behind)
   pub placed : All (λ r. (length before ≤ r .start) × (r .start < length before + length d - 1)) m
 
--- What the bytes w behind an F0H complete, where they leave the scan outside.
-abbrev pub found : List ℕ → List ℕ → List Report
-found before w = emitted judge (suc (length before)) (inside (length before) []) w
-
-pub lay : (before w behind : List ℕ) → after (suc (length before)) (inside (length before) []) w ≡ outside → Laid before (0xF0 ∷ w) behind (found before w)
-lay before w behind e =
+-- The bytes w behind an F0H, where the scan gives the reports m of them and is then outside.
+laid-by : (before w behind : List ℕ) (m : List Report)
+    → scan judge (suc (length before)) (inside (length before) []) (w ++ behind) ≡ m ++ scan judge (suc (length before) + length w) outside behind
+    → All (λ r. (length before ≤ r .start) × (suc (r .start) < suc (length before) + length w)) m → Laid before (0xF0 ∷ w) behind m
+laid-by before w behind m e a =
     let last : suc (length before) + length w ≡ length before + suc (length w) = omega arith in
     record {
       some-bytes = omega arith;
@@ -42,33 +41,32 @@ lay before w behind e =
             reports-scan judge (stream before (0xF0 ∷ w) behind),
             scan-exclusive judge before 0 outside (w ++ behind),
             zero-add (length before),
-            scan-split judge w (suc (length before)) (inside (length before) []) behind,
             e,
             last,
           );
-      placed =
-          all-weaken _ _ (λ r h. omega arith) (found before w)
-          (emitted-within judge w (length before) (suc (length before)) (inside (length before) []) (omega arith));
+      placed = all-weaken _ _ (λ r h. omega arith) m a;
     }
+
+-- What such bytes complete.
+abbrev pub found : List ℕ → List ℕ → List Report
+found before w = emitted judge (suc (length before)) (inside (length before) []) w
+
+pub lay : (before w behind : List ℕ) → after (suc (length before)) (inside (length before) []) w ≡ outside → Laid before (0xF0 ∷ w) behind (found before w)
+lay before w behind e =
+    let f = length before in
+    laid-by before w behind (found before w) (rw (scan-split judge w (suc f) (inside f []) behind, e))
+    (emitted-within judge w f (suc f) (inside f []) (omega arith))
 
 -- Data bytes between F0H and F7H give one report.
 pub one-message : (before c behind : List ℕ) → All DataByte c
     → Laid before (framed c) behind (report (length before) (length before + length (framed c)) (judge (framed c)) ∷ [])
 one-message before c behind a =
-    let last : suc (suc (length before) + length c) ≡ length before + length (framed c) = omega (arith, length-append c (0xF7 ∷ [])) in
-    record {
-      some-bytes = omega arith;
-      whole =
-          rw (
-            reports-scan judge (stream before (framed c) behind),
-            append-assoc c (0xF7 ∷ []) behind,
-            scan-exclusive judge before 0 outside (c ++ 0xF7 ∷ behind),
-            zero-add (length before),
-            scan-close judge c a (suc (length before)) (length before) [] behind,
-            last,
-          );
-      placed = ((omega arith, omega (arith, last)), tt);
-    }
+    let f = length before in
+    let size = length-append c (0xF7 ∷ []) in
+    let end : suc (suc f + length c) ≡ f + length (framed c) = omega arith in
+    let last : suc f + length (c ++ (0xF7 ∷ [])) ≡ f + length (framed c) = omega arith in
+    laid-by before (c ++ (0xF7 ∷ [])) behind (report f (f + length (framed c)) (judge (framed c)) ∷ [])
+    (rw (append-assoc c (0xF7 ∷ []) behind, scan-close judge c a (suc f) f [] behind, end, last)) ((omega arith, omega arith), tt)
 
 module _ (before d behind : List ℕ) (m : List Report) (laid : Laid before d behind m) where
   -- The three parts of the stream's reports.

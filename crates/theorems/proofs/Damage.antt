@@ -305,28 +305,25 @@ module _ (k : Dump) (filed : Filed (ofDump k)) (patch : k .packed ≡ aPatch) (n
         (comes-refused k filed patch p l out (exchanged k filed patch p l out n u₂ a b v₂ (c .sends) differ)))
 
   -- Neighbours exchanged in the header: the maker is wrong, the device, the opcode; or the first nibble stands for the number.
-  maker-exchanged : Spoilt (damaged (exchange 1) whole)
-  unfolding dump
+  maker-exchanged : Spoilt (framed (0x06 ∷ 0x10 ∷ k .opcode ∷ n ∷ sent))
   maker-exchanged =
       let h = head-data in
       not-accepted (0x06 ∷ 0x10 ∷ k .opcode ∷ n ∷ sent) (h .1 .0, (h .0, (h .1 .1 .0, (h .1 .1 .1 .0, sent-data))))
       (λ e. omega (arith, done-head (framed (0x06 ∷ 0x10 ∷ k .opcode ∷ n ∷ sent)) e .0))
 
-  device-exchanged : (0x06 ≡ k .opcode → ⊥) → Spoilt (damaged (exchange 2) whole)
-  unfolding dump
+  device-exchanged : (0x06 ≡ k .opcode → ⊥) → Spoilt (framed (0x10 ∷ k .opcode ∷ 0x06 ∷ n ∷ sent))
   device-exchanged other =
       let h = head-data in
       not-accepted (0x10 ∷ k .opcode ∷ 0x06 ∷ n ∷ sent) (h .0, (h .1 .1 .0, (h .1 .0, (h .1 .1 .1 .0, sent-data))))
       (λ e. other (sym (done-head (framed (0x10 ∷ k .opcode ∷ 0x06 ∷ n ∷ sent)) e .1)))
 
-  number-exchanged : (k .opcode ≡ n → ⊥) → Spoilt (damaged (exchange 3) whole)
-  unfolding dump
+  number-exchanged : (k .opcode ≡ n → ⊥) → Spoilt (framed (0x10 ∷ 0x06 ∷ n ∷ k .opcode ∷ sent))
   number-exchanged other =
       let h = head-data in
       not-accepted (0x10 ∷ 0x06 ∷ n ∷ k .opcode ∷ sent) (h .0, (h .1 .0, (h .1 .1 .1 .0, (h .1 .1 .0, sent-data))))
       (opcode-exchanged k filed n number other sent (omega (arith, sent-length, filed-sized (ofDump k) filed .0, ap sizeOf patch)))
 
-  nibble-exchanged : (s : List ℕ) → s ≡ sent → (n ≡ getD (framed (head ++ s)) 5 0 → ⊥) → Spoilt (damaged (exchange 4) (framed (head ++ s)))
+  nibble-exchanged : (s : List ℕ) → s ≡ sent → let m = framed (head ++ s) in (n ≡ getD m 5 0 → ⊥) → Spoilt (instead 4 2 (getD m 5 0 ∷ n ∷ []) m)
   nibble-exchanged [] e other = absurd (omega (arith, ap length e, sent-length))
   nibble-exchanged (x ∷ v) e other =
       let h = head-data in
@@ -335,7 +332,7 @@ module _ (k : Dump) (filed : Filed (ofDump k)) (patch : k .packed ≡ aPatch) (n
       (replaced k filed patch p l out x [] x v n e other)
 
   -- The sum exchanged with the closing F7H.
-  end-exchanged : (i : ℕ) → i ≡ 273 → Spoilt (damaged (exchange i) whole)
+  end-exchanged : (i : ℕ) → i ≡ 273 → Spoilt (instead i 2 (getD whole (suc i) 0 ∷ getD whole i 0 ∷ []) whole)
   end-exchanged i at-end =
       let ns = nibbles p in
       let s = sum p in
