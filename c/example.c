@@ -25,8 +25,8 @@ int main(int argc, char **argv)
             break;
         place = r.report.end;
         if (found.answer != MATRIX_DONE)
-            fprintf(stderr, "bytes %zu to %zu: refused by %d (%zu)\n",
-                    r.report.start, r.report.end, found.answer, found.detail);
+            fprintf(stderr, "bytes %zu to %zu: refused by %d (%zu, %d)\n",
+                    r.report.start, r.report.end, found.answer, found.detail, found.value);
         if (found.answer != MATRIX_DONE || found.detail != MATRIX_OPCODE_PATCH)
             continue;
 

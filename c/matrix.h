@@ -8,8 +8,8 @@
  *
  * - A slice is a pointer to its first element and its length in elements. The pointer of an empty
  *   slice may be NULL. No slice that a call may write overlaps another slice of the same call.
- * - Where several refusals apply, the first in the order that the comment names is given. Details are
- *   0 where the comment names none.
+ * - Where several refusals apply, the first in the order that the comment names is given. An outcome's
+ *   detail is 0 where the comment names none, and its value with every answer but 11.
  * - Refused: every byte lent keeps its value. Done: bytes behind the output keep theirs.
  * - No function allocates, keeps a pointer, or has any state; each may be called from any thread.
  */
@@ -37,7 +37,8 @@ enum matrix_answer {
                                  a value or amount byte above 127 */
     MATRIX_WIDE_DATA = 9,     /* a data byte above 15; detail: the first one's index in the data */
     MATRIX_WRONG_SUM = 10,    /* the sum byte differs from the computed sum */
-    MATRIX_OUT_OF_RANGE = 11, /* a field out of range; detail: the lowest such byte place */
+    MATRIX_OUT_OF_RANGE = 11, /* a field out of range; detail: the lowest such byte place; value: what
+                                 stands there, or what an edit would store there */
     MATRIX_HALF_USED = 12,    /* a bus half used; detail: the lowest such bus */
     MATRIX_NO_ROOM = 13       /* the lent output is too short */
 };
@@ -63,14 +64,18 @@ enum matrix_opcode {
 
 /* matrix_reports makes at most this many reports a call, of so many numbers each. */
 #define MATRIX_REPORTS 8
-#define MATRIX_REPORT_NUMBERS 4
+#define MATRIX_REPORT_NUMBERS 5
 
 /* matrix_place_of and matrix_parameter_of where there is none. */
 #define MATRIX_NONE 255
 
-/* What a call came to. */
+/* What a call came to. With answer 11 the value is that of the field out of range, for an edit the one
+ * that it would store; with every other answer it is 0. It has its sign where the field has one: byte
+ * 19, bytes 86 to 103, the amounts of the buses. Any other field shows its byte as it stands: an edit
+ * of parameter 0 with 40H would store C0H and shows 192. */
 typedef struct matrix_outcome {
     uint8_t answer; /* an enum matrix_answer */
+    int16_t value;
     size_t detail;
 } matrix_outcome;
 
@@ -94,6 +99,20 @@ typedef struct matrix_bank_outcome {
     matrix_outcome outcome;
     size_t place;
 } matrix_bank_outcome;
+
+/* The least and the greatest value of a parameter, with their signs; 0 when refused. */
+typedef struct matrix_range {
+    matrix_outcome outcome;
+    int16_t least;
+    int16_t greatest;
+} matrix_range;
+
+/* The value of a parameter in a patch, with its sign; 0 when refused. (That of a field out of range is
+ * the outcome's.) */
+typedef struct matrix_held {
+    matrix_outcome outcome;
+    int16_t value;
+} matrix_held;
 
 /* How many reports were made, and the place to go on from: the end of the last, or the place that the
  * call was given where none was made. */
@@ -120,8 +139,8 @@ matrix_reading matrix_read(const uint8_t *s, size_t s_len, size_t place,
 /* Lists the messages of the input `s` that start at `place` or later, as walks would from each end:
  * as many reports as there are and as the room takes, at most MATRIX_REPORTS. To go on, call again
  * from `next`. None made, with room for one, says that there are no more.
- * Written: four numbers for each report, start, end, answer and detail, at the start of the room;
- * matrix_listed_report takes them from there. Numbers behind them are kept. */
+ * Written: five numbers for each report, start, end, answer, detail and value, at the start of the
+ * room; matrix_listed_report takes them from there. Numbers behind them are kept. */
 matrix_listed matrix_reports(const uint8_t *s, size_t s_len, size_t place,
                              size_t *room, size_t room_len);
 
@@ -135,6 +154,14 @@ uint8_t matrix_place_of(uint8_t parameter);
 /* The parameter at a byte place, or MATRIX_NONE. */
 uint8_t matrix_parameter_of(uint8_t place);
 
+/* The range of a parameter, which is signed where its least value is below 0.
+ * Answers: 8 for a number that is no parameter's; 0. */
+matrix_range matrix_range_of(uint8_t parameter);
+
+/* The value of a parameter in a patch.
+ * Answers: 8 for the parameter, then 7, 11 and 12 for the patch; 0. No byte is written. */
+matrix_held matrix_value_of(const uint8_t *p, size_t p_len, uint8_t parameter);
+
 /* Sets the name of a patch to a text of eight bytes, each 32 to 95.
  * Answers: 7 for the patch, 7 and 8 for the text, 11 and 12 for the patch as it was; 0.
  * Written: bytes 0 to 7 of the patch with answer 0. */
@@ -145,13 +172,16 @@ matrix_outcome matrix_set_name(uint8_t *p, size_t p_len, const uint8_t *text, si
  * Written: the first eight bytes of the output with answer 0. */
 matrix_outcome matrix_show_name(const uint8_t *p, size_t p_len, uint8_t *out, size_t out_len);
 
-/* Applies a remote edit to a patch: a parameter, and seven bits of value, `v & 0x7F` for a value v.
+/* Applies a remote edit to a patch: a parameter, and seven bits of value. A signed parameter takes
+ * `v & 0x7F` for a value v, any other takes v as it is. The bits alone do not tell whether v was in
+ * range: 100 sent to parameter 1 stores E4H, which is -28, and answers 0. matrix_range_of tells the
+ * least and the greatest value, by which v is to be tested before it is sent.
  * Answers: 8 and 11 for the edit, then 7, 11 and 12 for the patch as it was; 0.
  * Written: the parameter's byte with answer 0. */
 matrix_outcome matrix_apply_edit(uint8_t *p, size_t p_len, uint8_t parameter, uint8_t value);
 
 /* Applies a matrix modulation edit to a patch: a bus, 0 to 9, its source, 0 to 20, seven bits of
- * amount, and its destination, 0 to 32.
+ * amount, `a & 0x7F` for an amount a, -64 to 63, and its destination, 0 to 32.
  * Answers: 8, 11 and 12 for the edit, then 7, 11 and 12 for the patch as it was; 0.
  * Written: the three bytes of the bus with answer 0. */
 matrix_outcome matrix_apply_bus_edit(uint8_t *p, size_t p_len,
@@ -173,12 +203,12 @@ matrix_outcome matrix_write_edit_buffer(const uint8_t *p, size_t p_len, uint8_t 
  * Written: the first 351 bytes of the output with answer 0. */
 matrix_outcome matrix_write_master(const uint8_t *m, size_t m_len, uint8_t *out, size_t out_len);
 
-/* Writes a remote edit (06H).
+/* Writes a remote edit (06H), its value as matrix_apply_edit takes it.
  * Answers: 8, 11, 13; 0 with detail 7.
  * Written: the first 7 bytes of the output with answer 0. */
 matrix_outcome matrix_write_edit(uint8_t parameter, uint8_t value, uint8_t *out, size_t out_len);
 
-/* Writes a matrix modulation edit (0BH).
+/* Writes a matrix modulation edit (0BH), its amount as matrix_apply_bus_edit takes it.
  * Answers: 8, 11, 12, 13; 0 with detail 9.
  * Written: the first 9 bytes of the output with answer 0. */
 matrix_outcome matrix_write_bus_edit(uint8_t bus, uint8_t source, uint8_t amount, uint8_t destination,
@@ -195,15 +225,19 @@ matrix_bank_outcome matrix_write_bank(const uint8_t *ps, size_t ps_len, uint8_t 
 static inline matrix_report matrix_listed_report(const size_t *room, size_t index)
 {
     const size_t *numbers = room + index * MATRIX_REPORT_NUMBERS;
+    const int value = (int)(numbers[4] & 0xFFFF); /* sixteen bits, the highest the sign */
     matrix_report report;
     report.start = numbers[0];
     report.end = numbers[1];
     report.outcome.answer = numbers[2] & 0xFF;
     report.outcome.detail = numbers[3];
+    report.outcome.value = (int16_t)(value < 0x8000 ? value : value - 0x10000);
     return report;
 }
 
-/* The parameters, in the order of their bytes in a patch, named as the maker's listing names them. */
+/* The parameters, in the order of their bytes in a patch, named as the maker's listing names them.
+ * Signed are MATRIX_DCO_2_DETUNE, -32 to 31, and the eighteen from MATRIX_DCO_1_FREQUENCY_BY_LFO_1 on,
+ * -64 to 63; matrix_range_of tells the range of each. */
 enum matrix_parameter {
     MATRIX_KEYBOARD_MODE = 48,               /* Keyboard Mode */
     MATRIX_DCO_1_FREQUENCY = 0,              /* DCO 1 Initial Frequency */
@@ -351,6 +385,12 @@ static inline matrix_outcome matrix_test_patch_(const uint8_t *p, size_t p_len)
     return matrix_test_patch(matrix_input_(p, p_len), p_len);
 }
 #define matrix_test_patch matrix_test_patch_
+
+static inline matrix_held matrix_value_of_(const uint8_t *p, size_t p_len, uint8_t parameter)
+{
+    return matrix_value_of(matrix_input_(p, p_len), p_len, parameter);
+}
+#define matrix_value_of matrix_value_of_
 
 static inline matrix_outcome matrix_set_name_(uint8_t *p, size_t p_len,
                                               const uint8_t *text, size_t text_len)

@@ -24,9 +24,21 @@ static void hold(int holds, const char *what, int line)
 #define HOLDS(what) hold((what), #what, __LINE__)
 
 /* The one place where an outcome is held against what is expected. */
+static int came_to(matrix_outcome outcome, uint8_t answer, size_t detail, int value)
+{
+    return outcome.answer == answer && outcome.detail == detail && outcome.value == value;
+}
+
+/* Any answer but 11: there is no value. */
 static int gave(matrix_outcome outcome, uint8_t answer, size_t detail)
 {
-    return outcome.answer == answer && outcome.detail == detail;
+    return came_to(outcome, answer, detail, 0);
+}
+
+/* 11, with the byte place and the value there. */
+static int found(matrix_outcome outcome, size_t place, int value)
+{
+    return came_to(outcome, MATRIX_OUT_OF_RANGE, place, value);
 }
 
 static int done(matrix_outcome outcome, size_t detail)
@@ -34,14 +46,29 @@ static int done(matrix_outcome outcome, size_t detail)
     return gave(outcome, MATRIX_DONE, detail);
 }
 
+static int spans(matrix_report report, size_t start, size_t end)
+{
+    return report.start == start && report.end == end;
+}
+
 static int says(matrix_report report, size_t start, size_t end, uint8_t answer, size_t detail)
 {
-    return report.start == start && report.end == end && gave(report.outcome, answer, detail);
+    return spans(report, start, end) && gave(report.outcome, answer, detail);
 }
 
 static int bank_gave(matrix_bank_outcome bank, uint8_t answer, size_t detail, size_t place)
 {
     return gave(bank.outcome, answer, detail) && bank.place == place;
+}
+
+static int ranges(matrix_range range, int least, int greatest)
+{
+    return done(range.outcome, 0) && range.least == least && range.greatest == greatest;
+}
+
+static int holds_value(matrix_held held, int value)
+{
+    return done(held.outcome, 0) && held.value == value;
 }
 
 static int all_are(const uint8_t *bytes, size_t from, size_t to, uint8_t byte)
@@ -135,7 +162,7 @@ static void test_patches(void)
 
     make_p(p);
     HOLDS(done(matrix_test_patch(p, sizeof p), 0));
-    HOLDS(gave(matrix_test_patch(zeros, sizeof zeros), MATRIX_OUT_OF_RANGE, 76));
+    HOLDS(found(matrix_test_patch(zeros, sizeof zeros), 76, 0));
     HOLDS(gave(matrix_test_patch(p, sizeof p - 1), MATRIX_WRONG_LENGTH, 0));
 
     HOLDS(matrix_place_of(MATRIX_VCF_FREQUENCY) == 26);
@@ -176,9 +203,9 @@ static void test_edits(void)
     HOLDS(done(matrix_apply_edit(p, sizeof p, 0x15, 0x7F), 0) && p[26] == 127);
     HOLDS(done(matrix_apply_edit(p, sizeof p, MATRIX_DCO_2_DETUNE, -32 & 0x7F), 0));
     HOLDS(p[19] == 0xE0);
-    HOLDS(gave(matrix_apply_edit(p, sizeof p, 0x0C, 0x5F), MATRIX_OUT_OF_RANGE, 19));
-    HOLDS(gave(matrix_apply_edit(p, sizeof p, 0x0C, 0x20), MATRIX_OUT_OF_RANGE, 19));
-    HOLDS(gave(matrix_apply_edit(p, sizeof p, 0x00, 0x40), MATRIX_OUT_OF_RANGE, 9));
+    HOLDS(found(matrix_apply_edit(p, sizeof p, 0x0C, 0x5F), 19, -33));
+    HOLDS(found(matrix_apply_edit(p, sizeof p, 0x0C, 0x20), 19, 32));
+    HOLDS(found(matrix_apply_edit(p, sizeof p, 0x00, 0x40), 9, 192));
     HOLDS(gave(matrix_apply_edit(p, sizeof p, 39, 0), MATRIX_NOT_ALLOWED, 0));
     HOLDS(p[19] == 0xE0 && p[9] == 0);
     HOLDS(done(matrix_apply_edit(p, sizeof p, 0x0C, 0x1F), 0) && p[19] == 31);
@@ -186,16 +213,15 @@ static void test_edits(void)
     HOLDS(done(matrix_apply_bus_edit(p, sizeof p, 9, 20, 0x40, 31), 0));
     HOLDS(p[131] == 0x14 && p[132] == 0xC0 && p[133] == 0x1F);
     HOLDS(done(matrix_apply_bus_edit(p, sizeof p, 9, 20, 0x40, 32), 0) && p[133] == 0x20);
-    HOLDS(gave(matrix_apply_bus_edit(p, sizeof p, 9, 20, 0x40, 33), MATRIX_OUT_OF_RANGE, 133));
+    HOLDS(found(matrix_apply_bus_edit(p, sizeof p, 9, 20, 0x40, 33), 133, 33));
     HOLDS(gave(matrix_apply_bus_edit(p, sizeof p, 0, 1, 0, 0), MATRIX_HALF_USED, 0));
     HOLDS(gave(matrix_apply_bus_edit(p, sizeof p, 10, 1, 0, 1), MATRIX_NOT_ALLOWED, 0));
     HOLDS(p[131] == 0x14 && p[133] == 0x20 && all_are(p, 104, 131, 0));
     HOLDS(done(matrix_test_patch(p, sizeof p), 0));
-    p[133] = 33;
-    HOLDS(gave(matrix_test_patch(p, sizeof p), MATRIX_OUT_OF_RANGE, 133));
 
     memset(out, FILL_BYTE, sizeof out);
     HOLDS(gave(matrix_write_edit(0x15, 0x7F, out, 6), MATRIX_NO_ROOM, 0));
+    HOLDS(found(matrix_write_edit(0x0C, 0x5F, out, 6), 19, -33));
     HOLDS(gave(matrix_write_edit(0x15, 0x80, out, sizeof out), MATRIX_NOT_ALLOWED, 0));
     HOLDS(all_are(out, 0, sizeof out, FILL_BYTE));
     HOLDS(done(matrix_write_edit(0x15, 0x7F, out, sizeof out), 7));
@@ -203,10 +229,126 @@ static void test_edits(void)
 
     memset(out, FILL_BYTE, sizeof out);
     HOLDS(gave(matrix_write_bus_edit(10, 20, 0x40, 32, out, sizeof out), MATRIX_NOT_ALLOWED, 0));
-    HOLDS(gave(matrix_write_bus_edit(9, 20, 0x40, 33, out, sizeof out), MATRIX_OUT_OF_RANGE, 133));
+    HOLDS(found(matrix_write_bus_edit(9, 20, 0x40, 33, out, sizeof out), 133, 33));
     HOLDS(all_are(out, 0, sizeof out, FILL_BYTE));
     HOLDS(done(matrix_write_bus_edit(9, 20, 0x40, 32, out, sizeof out), 9));
     HOLDS(memcmp(out, bus, sizeof bus) == 0 && out[9] == FILL_BYTE);
+}
+
+/* The dump of P with another byte at a place, and the sum that fits it. */
+static void make_dump(uint8_t dump[MATRIX_PATCH_MESSAGE], size_t place, uint8_t byte)
+{
+    uint8_t p[MATRIX_PATCH_BYTES];
+
+    make_p(p);
+    matrix_write_patch(0, p, sizeof p, dump, MATRIX_PATCH_MESSAGE);
+    dump[5 + 2 * place] = byte % 16;
+    dump[6 + 2 * place] = byte / 16;
+    dump[273] = (uint8_t)((dump[273] + byte - p[place]) & 0x7F);
+}
+
+/* All that tests a patch tells the place and the value that this byte has there. */
+static void find(size_t place, uint8_t byte, int value)
+{
+    uint8_t bank[2 * MATRIX_PATCH_BYTES], dump[MATRIX_PATCH_MESSAGE], out[2 * MATRIX_PATCH_MESSAGE];
+    uint8_t *p = bank + MATRIX_PATCH_BYTES;
+    size_t room[MATRIX_REPORT_NUMBERS];
+
+    make_p(bank);
+    make_p(p);
+    p[place] = byte;
+    memset(out, FILL_BYTE, sizeof out);
+    HOLDS(found(matrix_test_patch(p, MATRIX_PATCH_BYTES), place, value));
+    HOLDS(found(matrix_set_name(p, MATRIX_PATCH_BYTES, text("BASS 1  "), 8), place, value));
+    HOLDS(found(matrix_show_name(p, MATRIX_PATCH_BYTES, out, 8), place, value));
+    HOLDS(found(matrix_apply_edit(p, MATRIX_PATCH_BYTES, MATRIX_MIX, 1), place, value));
+    HOLDS(found(matrix_apply_bus_edit(p, MATRIX_PATCH_BYTES, 0, 1, 1, 1), place, value));
+    HOLDS(found(matrix_write_patch(0, p, MATRIX_PATCH_BYTES, out, sizeof out), place, value));
+    HOLDS(found(matrix_write_edit_buffer(p, MATRIX_PATCH_BYTES, out, sizeof out), place, value));
+    matrix_held held = matrix_value_of(p, MATRIX_PATCH_BYTES, MATRIX_TRACKING_POINT_1);
+    HOLDS(found(held.outcome, place, value) && held.value == 0);
+    matrix_bank_outcome written = matrix_write_bank(bank, sizeof bank, out, sizeof out);
+    HOLDS(found(written.outcome, place, value) && written.place == 1);
+    HOLDS(p[place] == byte && all_are(out, 0, sizeof out, FILL_BYTE));
+
+    make_dump(dump, place, byte);
+    matrix_report report = matrix_walk(dump, sizeof dump, 0);
+    HOLDS(spans(report, 0, sizeof dump) && found(report.outcome, place, value));
+    matrix_reading r = matrix_read(dump, sizeof dump, 0, out, sizeof out);
+    HOLDS(spans(r.report, 0, sizeof dump) && found(r.report.outcome, place, value));
+    HOLDS(all_are(r.bytes, 0, 4, 0) && all_are(out, 0, sizeof out, FILL_BYTE));
+    HOLDS(matrix_reports(dump, sizeof dump, 0, room, MATRIX_REPORT_NUMBERS).count == 1);
+    HOLDS(room[4] == (size_t)value);
+    report = matrix_listed_report(room, 0);
+    HOLDS(spans(report, 0, sizeof dump) && found(report.outcome, place, value));
+}
+
+/* Byte 19, bytes 86 to 103 and the amounts of the buses. */
+static int has_sign(size_t place)
+{
+    return place == 19 || (place >= 86 && place <= 103) || (place >= 105 && place % 3 == 0);
+}
+
+static void test_found(void)
+{
+    static const int16_t values[] = {-64, 0, 255, -1, -128, INT16_MIN, INT16_MAX};
+    static const uint8_t sent[] = {0xF0, 0x10, 0x06, 0x06, 0x00, 0x40, 0xF7};
+    size_t room[MATRIX_REPORT_NUMBERS] = {0};
+
+    for (size_t place = 0; place < MATRIX_PATCH_BYTES; place++)
+        find(place, 0x80, has_sign(place) ? -128 : 128);
+    find(9, 0xC0, 192);
+    find(19, 0xDF, -33);
+    find(19, 0x20, 32);
+    find(26, 0xFF, 255);
+    find(76, 0, 0);
+    find(105, 0xBF, -65);
+    find(132, 0x40, 64);
+    find(133, 0x21, 33);
+    HOLDS(found(matrix_walk(sent, sizeof sent, 0).outcome, 9, 192));
+
+    for (size_t i = 0; i < sizeof values / sizeof values[0]; i++) {
+        room[4] = (size_t)values[i];
+        HOLDS(matrix_listed_report(room, 0).outcome.value == values[i]);
+    }
+}
+
+static void test_values(void)
+{
+    uint8_t p[MATRIX_PATCH_BYTES];
+    static const uint8_t none_such[] = {39, 49, 89, 99, 100, 255};
+
+    HOLDS(ranges(matrix_range_of(MATRIX_DCO_2_DETUNE), -32, 31));
+    HOLDS(ranges(matrix_range_of(MATRIX_VCF_FREQUENCY), 0, 127));
+    HOLDS(ranges(matrix_range_of(MATRIX_TRACKING_SOURCE), 1, 20));
+    for (uint8_t place = 8; place < 104; place++) {
+        matrix_range range = matrix_range_of(matrix_parameter_of(place));
+        HOLDS(done(range.outcome, 0) && (range.least < 0) == has_sign(place));
+        HOLDS(place < 86 || (range.least == -64 && range.greatest == 63));
+    }
+    for (size_t i = 0; i < sizeof none_such; i++) {
+        matrix_range range = matrix_range_of(none_such[i]);
+        HOLDS(gave(range.outcome, MATRIX_NOT_ALLOWED, 0));
+        HOLDS(range.least == 0 && range.greatest == 0);
+    }
+
+    make_p(p);
+    HOLDS(holds_value(matrix_value_of(p, sizeof p, MATRIX_TRACKING_SOURCE), 1));
+    HOLDS(done(matrix_apply_edit(p, sizeof p, 1, 100 & 0x7F), 0) && p[86] == 0xE4);
+    HOLDS(holds_value(matrix_value_of(p, sizeof p, 1), -28));
+    HOLDS(done(matrix_apply_edit(p, sizeof p, 21, 100 & 0x7F), 0));
+    HOLDS(holds_value(matrix_value_of(p, sizeof p, 21), 100));
+
+    matrix_held held = matrix_value_of(p, sizeof p - 1, 39);
+    HOLDS(gave(held.outcome, MATRIX_NOT_ALLOWED, 0) && held.value == 0);
+    held = matrix_value_of(p, sizeof p - 1, 1);
+    HOLDS(gave(held.outcome, MATRIX_WRONG_LENGTH, 0) && held.value == 0);
+    p[107] = 1;
+    held = matrix_value_of(p, sizeof p, 1);
+    HOLDS(gave(held.outcome, MATRIX_HALF_USED, 1) && held.value == 0);
+    p[105] = 0xBF;
+    held = matrix_value_of(p, sizeof p, 1);
+    HOLDS(found(held.outcome, 105, -65) && held.value == 0);
 }
 
 static void test_writing(void)
@@ -291,6 +433,8 @@ static void test_null(void)
     HOLDS(matrix_reports(NULL, 0, 0, NULL, 0).count == 0);
     HOLDS(matrix_reports(listed, sizeof listed, 2, NULL, 0).next == 2);
     HOLDS(gave(matrix_test_patch(NULL, 0), MATRIX_WRONG_LENGTH, 0));
+    HOLDS(gave(matrix_value_of(NULL, 0, 1).outcome, MATRIX_WRONG_LENGTH, 0));
+    HOLDS(gave(matrix_value_of(NULL, 0, 39).outcome, MATRIX_NOT_ALLOWED, 0));
     HOLDS(gave(matrix_set_name(NULL, 0, NULL, 0), MATRIX_WRONG_LENGTH, 0));
     HOLDS(gave(matrix_set_name(p, sizeof p, NULL, 0), MATRIX_WRONG_LENGTH, 0));
     HOLDS(gave(matrix_show_name(NULL, 0, one, 1), MATRIX_WRONG_LENGTH, 0));
@@ -321,6 +465,8 @@ int main(void)
     test_patches();
     test_names();
     test_edits();
+    test_found();
+    test_values();
     test_writing();
     test_banks();
     test_null();

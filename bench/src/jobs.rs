@@ -4,13 +4,14 @@
 use std::hint::black_box;
 
 use compare::ffi::{self, A_CALL};
+use compare::word;
 use reference::streams::{inputs, Random};
-use reference::{BANK_PATCHES, PATCH_LENGTH};
+use reference::{parameter_of, BANK_PATCHES, PATCH_LENGTH};
 
 /// A job in both ways.
 pub struct Job {
     pub name: &'static str,
-    /// How much one pass does, in bytes or edits.
+    /// How much one pass does, in bytes, values or edits.
     pub amount: usize,
     /// What a million of them in a second is called.
     pub unit: &'static str,
@@ -27,7 +28,7 @@ const STARTS: usize = 1 << 14;
 /// How many patches are tested and edits are applied in a pass.
 const MANY: usize = 100;
 
-pub fn all() -> [Job; 8] {
+pub fn all() -> [Job; 9] {
     let mut random = Random::new(SEED);
     let bank = good_patches(&mut random, BANK_PATCHES);
     let banks: Vec<u8> = bank_dumps(&bank).into_iter().cycle().take(BANKS).collect();
@@ -45,6 +46,7 @@ pub fn all() -> [Job; 8] {
         reports("reports-starts", starts),
         read(banks),
         test_patch(patches),
+        values(patch),
         write_bank(bank),
         apply_edits(patch, edits),
         apply_bus_edits(patch, bus_edits),
@@ -83,8 +85,8 @@ fn reports(name: &'static str, input: Vec<u8>) -> Job {
             loop {
                 let made = ffi::reports(input, place, room.as_flattened_mut());
                 // The end of the last is the place to go on from, and known before the call is over.
-                for &[start, end, answer, detail] in &room[..made.count] {
-                    all = add(all, start ^ end ^ answer ^ detail);
+                for &[start, end, answer, detail, value] in &room[..made.count] {
+                    all = add(all, start ^ end ^ answer ^ detail ^ value);
                     place = end;
                 }
                 if made.count == 0 {
@@ -94,7 +96,8 @@ fn reports(name: &'static str, input: Vec<u8>) -> Job {
         }),
         plain: Box::new(move || {
             reference::reports(black_box(other.as_slice())).fold(0, |all, r| {
-                add(all, r.start ^ r.end ^ usize::from(r.answer) ^ r.detail)
+                let outcome = one(r.answer, r.detail, r.value);
+                add(all, r.start ^ r.end ^ outcome)
             })
         }),
     }
@@ -120,7 +123,7 @@ fn read(input: Vec<u8>) -> Job {
                 black_box(&buffer);
                 let [first, ..] = r.bytes;
                 let places = r.report.start ^ r.report.end;
-                all = add(all, places ^ both(outcome) ^ usize::from(first));
+                all = add(all, places ^ library(outcome) ^ usize::from(first));
                 place = r.report.end;
             }
         }),
@@ -134,11 +137,8 @@ fn read(input: Vec<u8>) -> Job {
                 }
                 black_box(&other_buffer);
                 let [first, ..] = r.bytes;
-                let answer = usize::from(r.answer);
-                all = add(
-                    all,
-                    r.start ^ r.end ^ answer ^ r.detail ^ usize::from(first),
-                );
+                let outcome = one(r.answer, r.detail, r.value);
+                all = add(all, r.start ^ r.end ^ outcome ^ usize::from(first));
                 place = r.end;
             }
         }),
@@ -154,13 +154,38 @@ fn test_patch(patches: Vec<u8>) -> Job {
         unit: "MB/s",
         library: Box::new(move || {
             let patches = black_box(patches.as_slice()).chunks_exact(PATCH_LENGTH);
-            patches.fold(0, |all, patch| add(all, both(ffi::test_patch(patch))))
+            patches.fold(0, |all, patch| add(all, library(ffi::test_patch(patch))))
         }),
         plain: Box::new(move || {
             let patches = black_box(other.as_slice()).chunks_exact(PATCH_LENGTH);
             patches.fold(0, |all, patch| {
-                let tested = reference::test_patch(patch);
-                add(all, usize::from(tested.answer) ^ tested.detail)
+                add(all, plain(reference::test_patch(patch)))
+            })
+        }),
+    }
+}
+
+/// The value of every parameter in a patch, which is tested for each.
+fn values(patch: [u8; PATCH_LENGTH]) -> Job {
+    let parameters: Vec<u8> = (0..=255).filter_map(parameter_of).collect();
+    let other = parameters.clone();
+    Job {
+        name: "values",
+        amount: parameters.len(),
+        unit: "million values/s",
+        library: Box::new(move || {
+            let patch = black_box(&patch);
+            black_box(&parameters).iter().fold(0, |all, &parameter| {
+                let held = ffi::value_of(patch, parameter);
+                add(all, library(held.outcome) ^ word(held.value))
+            })
+        }),
+        plain: Box::new(move || {
+            let patch = black_box(&patch);
+            black_box(&other).iter().fold(0, |all, &parameter| {
+                let held = reference::value_of(patch, parameter);
+                let outcome = one(held.answer, held.detail, held.value);
+                add(all, outcome ^ word(held.held))
             })
         }),
     }
@@ -177,12 +202,12 @@ fn write_bank(bank: Vec<u8>) -> Job {
         unit: "MB/s",
         library: Box::new(move || {
             let written = ffi::write_bank(black_box(&bank), black_box(&mut out));
-            both(written.outcome) ^ written.place ^ usize::from(out[273])
+            library(written.outcome) ^ written.place ^ usize::from(out[273])
         }),
         plain: Box::new(move || {
             let written = reference::write_bank(black_box(&other), black_box(&mut other_out));
-            let answer = usize::from(written.answer);
-            answer ^ written.detail ^ written.place ^ usize::from(other_out[273])
+            let outcome = one(written.answer, written.detail, written.value);
+            outcome ^ written.place ^ usize::from(other_out[273])
         }),
     }
 }
@@ -200,7 +225,7 @@ fn apply_edits(mut patch: [u8; PATCH_LENGTH], edits: Vec<[u8; 2]>) -> Job {
             let all = black_box(&edits)
                 .iter()
                 .fold(0, |all, &[parameter, value]| {
-                    add(all, both(ffi::apply_edit(patch, parameter, value)))
+                    add(all, library(ffi::apply_edit(patch, parameter, value)))
                 });
             sum(all, patch)
         }),
@@ -209,8 +234,7 @@ fn apply_edits(mut patch: [u8; PATCH_LENGTH], edits: Vec<[u8; 2]>) -> Job {
             let all = black_box(&other)
                 .iter()
                 .fold(0, |all, &[parameter, value]| {
-                    let applied = reference::apply_edit(patch, parameter, value);
-                    add(all, usize::from(applied.answer) ^ applied.detail)
+                    add(all, plain(reference::apply_edit(patch, parameter, value)))
                 });
             sum(all, patch)
         }),
@@ -228,7 +252,7 @@ fn apply_bus_edits(mut patch: [u8; PATCH_LENGTH], edits: Vec<[u8; 4]>) -> Job {
         library: Box::new(move || {
             let patch = black_box(&mut patch);
             let all = black_box(&edits).iter().fold(0, |all, &edit| {
-                add(all, both(ffi::apply_bus_edit(patch, edit)))
+                add(all, library(ffi::apply_bus_edit(patch, edit)))
             });
             sum(all, patch)
         }),
@@ -237,7 +261,7 @@ fn apply_bus_edits(mut patch: [u8; PATCH_LENGTH], edits: Vec<[u8; 4]>) -> Job {
             let all = black_box(&other).iter().fold(0, |all, &edit| {
                 let [bus, source, amount, destination] = edit;
                 let applied = reference::apply_bus_edit(patch, bus, source, amount, destination);
-                add(all, usize::from(applied.answer) ^ applied.detail)
+                add(all, plain(applied))
             });
             sum(all, patch)
         }),
@@ -245,8 +269,18 @@ fn apply_bus_edits(mut patch: [u8; PATCH_LENGTH], edits: Vec<[u8; 4]>) -> Job {
 }
 
 /// The numbers of an outcome as one.
-fn both(outcome: ffi::Outcome) -> usize {
-    usize::from(outcome.answer) ^ outcome.detail
+fn one(answer: u8, detail: usize, value: i16) -> usize {
+    usize::from(answer) ^ detail ^ word(value)
+}
+
+/// The library's outcome as one number.
+fn library(outcome: ffi::Outcome) -> usize {
+    one(outcome.answer, outcome.detail, outcome.value)
+}
+
+/// The second program's.
+fn plain(outcome: reference::Outcome) -> usize {
+    one(outcome.answer, outcome.detail, outcome.value)
 }
 
 /// Adds a patch's bytes to the results.

@@ -1,7 +1,7 @@
 //! Inputs for each routine: good, damaged and hostile, with slices of every length around the
 //! needed one.
 
-use compare::ffi::A_CALL;
+use compare::ffi::{A_CALL, EMPTY};
 use reference::streams::{self, inputs, Random};
 use reference::{reports, BANK_PATCHES, NAME_LENGTH, PATCH_LENGTH};
 
@@ -117,8 +117,8 @@ pub fn reports_noisy(random: &mut Random) -> Call {
 
 fn reports_of(random: &mut Random, (input, place): Stream) -> Call {
     let length = match random.below(8) {
-        0 => random.below(5),
-        1 => around(random, 4 * A_CALL),
+        0 => random.below(EMPTY.len() + 1),
+        1 => around(random, A_CALL * EMPTY.len()),
         2 => random.below(600),
         _ => random.below(64),
     };
@@ -149,6 +149,13 @@ pub fn test_patch(random: &mut Random) -> Call {
         call.first.get_mut()[place] = random.byte();
     }
     call
+}
+
+pub fn value_of(random: &mut Random) -> Call {
+    Call {
+        bytes: [inputs::parameter(random), 0, 0, 0],
+        ..patch(random, 0)
+    }
 }
 
 pub fn set_name(random: &mut Random) -> Call {
@@ -263,17 +270,35 @@ pub fn every_amount(random: &mut Random, number: usize) -> Call {
     }
 }
 
+/// An edit as a message.
+fn sent(opcode: u8, edit: &[u8]) -> Vec<u8> {
+    [&[0xF0, 0x10, 0x06, opcode], edit, &[0xF7]].concat()
+}
+
 /// The same edit sent, between other bytes.
 pub fn every_amount_sent(random: &mut Random, number: usize) -> Call {
     let edit = every_amount(random, number).bytes;
+    let stream = [&[0x7F], sent(0x0B, &edit).as_slice(), &[0x00]].concat();
+    Call {
+        first: Lent::new(random, &stream),
+        ..call(random)
+    }
+}
+
+/// Both edits of a number below 2 times 16,384 sent, from the first of them or from the second: each
+/// parameter with each value, and each source with each destination.
+pub fn every_edit_sent(random: &mut Random, number: usize) -> Call {
+    let [bus, _, amount, _] = inputs::good_bus_edit(random);
+    let [low, high] = [number, number >> 7].map(|bits| bits as u8 & 0x7F);
     let stream = [
-        &[0x7F, 0xF0, 0x10, 0x06, 0x0B],
-        edit.as_slice(),
-        &[0xF7, 0x00],
+        sent(0x06, &[high, low]),
+        sent(0x0B, &[bus, high, amount, low]),
     ]
     .concat();
     Call {
         first: Lent::new(random, &stream),
+        room: Lent::filled(random, A_CALL * EMPTY.len()),
+        place: number >> 14,
         ..call(random)
     }
 }
@@ -283,6 +308,15 @@ pub fn every_byte(random: &mut Random, number: usize) -> Call {
     Call {
         bytes: [number as u8, 0, 0, 0],
         ..call(random)
+    }
+}
+
+/// A call with one of the 256 bytes and a good patch.
+pub fn every_parameter(random: &mut Random, number: usize) -> Call {
+    let patch = inputs::good_patch(random);
+    Call {
+        first: Lent::new(random, &patch),
+        ..every_byte(random, number)
     }
 }
 

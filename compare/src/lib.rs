@@ -15,6 +15,13 @@ pub fn flat(report: reference::Report) -> ffi::Flat {
         end,
         answer,
         detail,
+        value,
     } = report;
-    [start, end, answer.into(), detail]
+    [start, end, answer.into(), detail, word(value)]
+}
+
+/// A value among numbers that have no sign, as C converts it.
+#[must_use]
+pub const fn word(value: i16) -> usize {
+    value as usize
 }

@@ -10,7 +10,7 @@ use std::hint::black_box;
 use std::time::Duration;
 
 use compare::ffi::{self, Flat, A_CALL};
-use compare::{clock, flat};
+use compare::{clock, flat, word};
 use reference::answers::NO_MESSAGE;
 use reference::streams::{inputs, Random};
 use reference::BANK_PATCHES;
@@ -108,9 +108,14 @@ fn by_walk(input: &[u8], each: &mut dyn FnMut(&Flat) -> bool) {
         let ffi::Report {
             start,
             end,
-            outcome: ffi::Outcome { answer, detail },
+            outcome,
         } = ffi::walk(input, place);
-        if answer == NO_MESSAGE || !each(&[start, end, answer.into(), detail]) {
+        let ffi::Outcome {
+            answer,
+            value,
+            detail,
+        } = outcome;
+        if answer == NO_MESSAGE || !each(&[start, end, answer.into(), detail, word(value)]) {
             return;
         }
         place = end;

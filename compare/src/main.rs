@@ -9,6 +9,7 @@
 //! that was lent, and what either program returned and left, and ends the run with status 1.
 
 mod calls;
+mod found;
 mod lent;
 mod long;
 mod routines;

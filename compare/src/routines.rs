@@ -3,10 +3,12 @@
 use std::fmt;
 
 use compare::ffi::{self, A_CALL};
+use compare::word;
 use reference::answers::NO_MESSAGE;
 use reference::streams::Random;
 
 use crate::calls;
+use crate::found;
 use crate::lent::Call;
 use crate::slips;
 
@@ -14,10 +16,15 @@ use crate::slips;
 #[derive(Clone, Copy)]
 pub enum Source {
     /// Any number of them, each from a seed.
-    Any(fn(&mut Random) -> Call),
+    Any(Any),
     /// All of a number of them.
-    Every(usize, fn(&mut Random, usize) -> Call),
+    Every(usize, Every),
 }
+
+/// Makes an input.
+type Any = fn(&mut Random) -> Call;
+/// Makes the input of a number.
+type Every = fn(&mut Random, usize) -> Call;
 
 /// A routine of the library, and what the second program says of the same call.
 pub struct Routine {
@@ -30,6 +37,27 @@ pub struct Routine {
     pub library: fn(&mut Call) -> Returned,
     /// What the call is to return. Elements are written as the call is to write them.
     pub expected: fn(&mut Call) -> Returned,
+}
+
+impl Routine {
+    /// The same routine on other inputs.
+    const fn on(self, inputs: &'static str, source: Source) -> Self {
+        Self {
+            inputs,
+            source,
+            ..self
+        }
+    }
+
+    /// The same routine on all of a number of inputs.
+    const fn on_every(self, inputs: &'static str, all: usize, make: Every) -> Self {
+        self.on(inputs, Source::Every(all, make))
+    }
+
+    /// The same routine on inputs with a byte out of range, at each place of a patch.
+    const fn finding(self, make: Every) -> Self {
+        self.on_every(", out of range at every place", found::EVERYWHERE, make)
+    }
 }
 
 impl fmt::Display for Routine {
@@ -48,6 +76,11 @@ impl Returned {
         self.0[0]
     }
 
+    /// What an outcome has.
+    fn outcome(answer: u8, detail: usize, value: i16) -> Self {
+        Self(vec![answer.into(), detail, word(value)])
+    }
+
     fn and(mut self, more: impl IntoIterator<Item = usize>) -> Self {
         self.0.extend(more);
         self
@@ -56,8 +89,13 @@ impl Returned {
 
 /// The library's structs.
 impl From<ffi::Outcome> for Returned {
-    fn from(ffi::Outcome { answer, detail }: ffi::Outcome) -> Self {
-        Self(vec![answer.into(), detail])
+    fn from(outcome: ffi::Outcome) -> Self {
+        let ffi::Outcome {
+            answer,
+            value,
+            detail,
+        } = outcome;
+        Self::outcome(answer, detail, value)
     }
 }
 
@@ -84,6 +122,23 @@ impl From<ffi::BankOutcome> for Returned {
     }
 }
 
+impl From<ffi::Range> for Returned {
+    fn from(range: ffi::Range) -> Self {
+        let ffi::Range {
+            outcome,
+            least,
+            greatest,
+        } = range;
+        Self::from(outcome).and([word(least), word(greatest)])
+    }
+}
+
+impl From<ffi::Held> for Returned {
+    fn from(ffi::Held { outcome, value }: ffi::Held) -> Self {
+        Self::from(outcome).and([word(value)])
+    }
+}
+
 impl From<ffi::Listed> for Returned {
     fn from(ffi::Listed { count, next }: ffi::Listed) -> Self {
         Self(vec![count, next])
@@ -98,8 +153,13 @@ impl From<u8> for Returned {
 
 /// The second program's structs, the same numbers in the same order.
 impl From<reference::Outcome> for Returned {
-    fn from(reference::Outcome { answer, detail }: reference::Outcome) -> Self {
-        Self(vec![answer.into(), detail])
+    fn from(outcome: reference::Outcome) -> Self {
+        let reference::Outcome {
+            answer,
+            detail,
+            value,
+        } = outcome;
+        Self::outcome(answer, detail, value)
     }
 }
 
@@ -110,8 +170,9 @@ impl From<reference::Report> for Returned {
             end,
             answer,
             detail,
+            value,
         } = report;
-        Self(vec![answer.into(), detail, start, end])
+        Self::outcome(answer, detail, value).and([start, end])
     }
 }
 
@@ -122,9 +183,11 @@ impl From<reference::Reading> for Returned {
             end,
             answer,
             detail,
+            value,
             bytes,
         } = reading;
-        Self(vec![answer.into(), detail, start, end]).and(bytes.map(usize::from))
+        let report = Self::outcome(answer, detail, value).and([start, end]);
+        report.and(bytes.map(usize::from))
     }
 }
 
@@ -133,9 +196,35 @@ impl From<reference::BankOutcome> for Returned {
         let reference::BankOutcome {
             answer,
             detail,
+            value,
             place,
         } = bank;
-        Self(vec![answer.into(), detail, place])
+        Self::outcome(answer, detail, value).and([place])
+    }
+}
+
+impl From<reference::RangeOutcome> for Returned {
+    fn from(range: reference::RangeOutcome) -> Self {
+        let reference::RangeOutcome {
+            answer,
+            detail,
+            value,
+            least,
+            greatest,
+        } = range;
+        Self::outcome(answer, detail, value).and([word(least), word(greatest)])
+    }
+}
+
+impl From<reference::ValueOutcome> for Returned {
+    fn from(outcome: reference::ValueOutcome) -> Self {
+        let reference::ValueOutcome {
+            answer,
+            detail,
+            value,
+            held,
+        } = outcome;
+        Self::outcome(answer, detail, value).and([word(held)])
     }
 }
 
@@ -163,12 +252,60 @@ fn reports(call: &mut Call) -> Returned {
     Returned(vec![made, place])
 }
 
+const WALK: Routine = Routine {
+    name: "walk",
+    inputs: "",
+    source: Source::Any(calls::walk),
+    library: |c| ffi::walk(c.first.get(), c.place).into(),
+    expected: |c| reference::walk(c.first.get(), c.place).into(),
+};
+
+const READ: Routine = Routine {
+    name: "read",
+    inputs: "",
+    source: Source::Any(calls::read),
+    library: |c| ffi::read(c.first.get(), c.place, c.second.get_mut()).into(),
+    expected: |c| reference::read(c.first.get(), c.place, c.second.get_mut()).into(),
+};
+
+const REPORTS: Routine = Routine {
+    name: "reports",
+    inputs: "",
+    source: Source::Any(calls::reports_from),
+    library: |c| ffi::reports(c.first.get(), c.place, c.room.get_mut()).into(),
+    expected: reports,
+};
+
 const TEST_PATCH: Routine = Routine {
     name: "test_patch",
     inputs: "",
     source: Source::Any(calls::test_patch),
     library: |c| ffi::test_patch(c.first.get()).into(),
     expected: |c| reference::test_patch(c.first.get()).into(),
+};
+
+const VALUE_OF: Routine = Routine {
+    name: "value_of",
+    inputs: "",
+    source: Source::Any(calls::value_of),
+    library: |c| ffi::value_of(c.first.get(), c.bytes[0]).into(),
+    expected: |c| reference::value_of(c.first.get(), c.bytes[0]).into(),
+};
+
+const SET_NAME: Routine = Routine {
+    name: "set_name",
+    inputs: "",
+    source: Source::Any(calls::set_name),
+    library: |c| ffi::set_name(c.first.get_mut(), c.second.get()).into(),
+    expected: |c| reference::set_name(c.first.get_mut(), c.second.get()).into(),
+};
+
+const SHOW_NAME: Routine = Routine {
+    name: "show_name",
+    inputs: "",
+    source: Source::Any(calls::show_name),
+    library: |c| ffi::show_name(c.first.get(), c.second.get_mut()).into(),
+    expected: |c| reference::show_name(c.first.get(), c.second.get_mut()).into(),
 };
 
 const APPLY_EDIT: Routine = Routine {
@@ -197,6 +334,25 @@ const APPLY_BUS_EDIT: Routine = Routine {
     },
 };
 
+const WRITE_PATCH: Routine = Routine {
+    name: "write_patch",
+    inputs: "",
+    source: Source::Any(calls::write_patch),
+    library: |c| ffi::write_patch(c.bytes[0], c.first.get(), c.second.get_mut()).into(),
+    expected: |c| {
+        let out = c.second.get_mut();
+        reference::write_patch(c.bytes[0], c.first.get(), out).into()
+    },
+};
+
+const WRITE_EDIT_BUFFER: Routine = Routine {
+    name: "write_edit_buffer",
+    inputs: "",
+    source: Source::Any(calls::write_edit_buffer),
+    library: |c| ffi::write_edit_buffer(c.first.get(), c.second.get_mut()).into(),
+    expected: |c| reference::write_edit_buffer(c.first.get(), c.second.get_mut()).into(),
+};
+
 const WRITE_EDIT: Routine = Routine {
     name: "write_edit",
     inputs: "",
@@ -223,28 +379,12 @@ const WRITE_BUS_EDIT: Routine = Routine {
     },
 };
 
-const WALK: Routine = Routine {
-    name: "walk",
+const WRITE_BANK: Routine = Routine {
+    name: "write_bank",
     inputs: "",
-    source: Source::Any(calls::walk),
-    library: |c| ffi::walk(c.first.get(), c.place).into(),
-    expected: |c| reference::walk(c.first.get(), c.place).into(),
-};
-
-const READ: Routine = Routine {
-    name: "read",
-    inputs: "",
-    source: Source::Any(calls::read),
-    library: |c| ffi::read(c.first.get(), c.place, c.second.get_mut()).into(),
-    expected: |c| reference::read(c.first.get(), c.place, c.second.get_mut()).into(),
-};
-
-const REPORTS: Routine = Routine {
-    name: "reports",
-    inputs: "",
-    source: Source::Any(calls::reports_from),
-    library: |c| ffi::reports(c.first.get(), c.place, c.room.get_mut()).into(),
-    expected: reports,
+    source: Source::Any(calls::write_bank),
+    library: |c| ffi::write_bank(c.first.get(), c.second.get_mut()).into(),
+    expected: |c| reference::write_bank(c.first.get(), c.second.get_mut()).into(),
 };
 
 /// What the inputs are called that have real time among all their bytes.
@@ -257,56 +397,31 @@ const REPLACED: &str = ", every pair of values for a byte's nibbles";
 /// What the bus edits are called with each byte as bus and each as amount.
 const AMOUNTS: &str = ", every bus and amount";
 
-pub static ROUTINES: [Routine; 31] = [
+/// What the edits are called that are sent, those that are handed in, and the bus edits of these.
+const SENT: &str = ", every edit sent";
+const EDITS: &str = ", every parameter and value";
+const BUS_EDITS: &str = ", every bus, source and destination";
+
+pub static ROUTINES: [Routine; 48] = [
     WALK,
-    Routine {
-        inputs: NOISY,
-        source: Source::Any(calls::walk_noisy),
-        ..WALK
-    },
+    WALK.on(NOISY, Source::Any(calls::walk_noisy)),
+    WALK.on_every(SENT, 2 << 14, calls::every_edit_sent),
+    WALK.finding(found::in_dump),
     READ,
-    Routine {
-        inputs: NOISY,
-        source: Source::Any(calls::read_noisy),
-        ..READ
-    },
-    Routine {
-        inputs: AMOUNTS,
-        source: Source::Every(65_536, calls::every_amount_sent),
-        ..READ
-    },
-    Routine {
-        inputs: EXCHANGED,
-        source: Source::Every(slips::EXCHANGES, slips::read_exchange),
-        ..READ
-    },
-    Routine {
-        inputs: REPLACED,
-        source: Source::Every(slips::PAIRS, slips::read_pair),
-        ..READ
-    },
+    READ.on(NOISY, Source::Any(calls::read_noisy)),
+    READ.on_every(AMOUNTS, 1 << 16, calls::every_amount_sent),
+    READ.on_every(SENT, 2 << 14, calls::every_edit_sent),
+    READ.finding(found::in_dump),
+    READ.on_every(EXCHANGED, slips::EXCHANGES, slips::read_exchange),
+    READ.on_every(REPLACED, slips::PAIRS, slips::read_pair),
     REPORTS,
-    Routine {
-        inputs: NOISY,
-        source: Source::Any(calls::reports_noisy),
-        ..REPORTS
-    },
-    Routine {
-        inputs: EXCHANGED,
-        source: Source::Every(slips::EXCHANGES, slips::report_exchange),
-        ..REPORTS
-    },
-    Routine {
-        inputs: REPLACED,
-        source: Source::Every(slips::PAIRS, slips::report_pair),
-        ..REPORTS
-    },
+    REPORTS.on(NOISY, Source::Any(calls::reports_noisy)),
+    REPORTS.on_every(SENT, 2 << 14, calls::every_edit_sent),
+    REPORTS.finding(found::in_dump),
+    REPORTS.on_every(EXCHANGED, slips::EXCHANGES, slips::report_exchange),
+    REPORTS.on_every(REPLACED, slips::PAIRS, slips::report_pair),
     TEST_PATCH,
-    Routine {
-        inputs: ", every byte at every place",
-        source: Source::Every(134 * 256, calls::every_field),
-        ..TEST_PATCH
-    },
+    TEST_PATCH.on_every(", every byte at every place", 134 * 256, calls::every_field),
     Routine {
         name: "place_of",
         inputs: ", every parameter",
@@ -322,53 +437,34 @@ pub static ROUTINES: [Routine; 31] = [
         expected: |c| reference::parameter_of(c.bytes[0]).into(),
     },
     Routine {
-        name: "set_name",
-        inputs: "",
-        source: Source::Any(calls::set_name),
-        library: |c| ffi::set_name(c.first.get_mut(), c.second.get()).into(),
-        expected: |c| reference::set_name(c.first.get_mut(), c.second.get()).into(),
+        name: "range_of",
+        inputs: ", every parameter",
+        source: Source::Every(256, calls::every_byte),
+        library: |c| ffi::range_of(c.bytes[0]).into(),
+        expected: |c| reference::range_of(c.bytes[0]).into(),
     },
-    Routine {
-        name: "show_name",
-        inputs: "",
-        source: Source::Any(calls::show_name),
-        library: |c| ffi::show_name(c.first.get(), c.second.get_mut()).into(),
-        expected: |c| reference::show_name(c.first.get(), c.second.get_mut()).into(),
-    },
+    VALUE_OF,
+    VALUE_OF.on_every(
+        ", every parameter of 16 patches",
+        16 * 256,
+        calls::every_parameter,
+    ),
+    VALUE_OF.finding(found::in_patch),
+    SET_NAME,
+    SET_NAME.finding(found::in_named),
+    SHOW_NAME,
+    SHOW_NAME.finding(found::in_patch),
     APPLY_EDIT,
-    Routine {
-        inputs: ", every parameter and value",
-        source: Source::Every(65_536, calls::every_edit),
-        ..APPLY_EDIT
-    },
+    APPLY_EDIT.on_every(EDITS, 1 << 16, calls::every_edit),
+    APPLY_EDIT.finding(found::in_patch),
     APPLY_BUS_EDIT,
-    Routine {
-        inputs: ", every bus, source and destination",
-        source: Source::Every(10 * 65_536, calls::every_bus_edit),
-        ..APPLY_BUS_EDIT
-    },
-    Routine {
-        inputs: AMOUNTS,
-        source: Source::Every(65_536, calls::every_amount),
-        ..APPLY_BUS_EDIT
-    },
-    Routine {
-        name: "write_patch",
-        inputs: "",
-        source: Source::Any(calls::write_patch),
-        library: |c| ffi::write_patch(c.bytes[0], c.first.get(), c.second.get_mut()).into(),
-        expected: |c| {
-            let out = c.second.get_mut();
-            reference::write_patch(c.bytes[0], c.first.get(), out).into()
-        },
-    },
-    Routine {
-        name: "write_edit_buffer",
-        inputs: "",
-        source: Source::Any(calls::write_edit_buffer),
-        library: |c| ffi::write_edit_buffer(c.first.get(), c.second.get_mut()).into(),
-        expected: |c| reference::write_edit_buffer(c.first.get(), c.second.get_mut()).into(),
-    },
+    APPLY_BUS_EDIT.on_every(BUS_EDITS, 10 << 16, calls::every_bus_edit),
+    APPLY_BUS_EDIT.on_every(AMOUNTS, 1 << 16, calls::every_amount),
+    APPLY_BUS_EDIT.finding(found::in_patch),
+    WRITE_PATCH,
+    WRITE_PATCH.finding(found::in_patch),
+    WRITE_EDIT_BUFFER,
+    WRITE_EDIT_BUFFER.finding(found::in_patch),
     Routine {
         name: "write_master",
         inputs: "",
@@ -377,27 +473,10 @@ pub static ROUTINES: [Routine; 31] = [
         expected: |c| reference::write_master(c.first.get(), c.second.get_mut()).into(),
     },
     WRITE_EDIT,
-    Routine {
-        inputs: ", every parameter and value",
-        source: Source::Every(65_536, calls::every_edit),
-        ..WRITE_EDIT
-    },
+    WRITE_EDIT.on_every(EDITS, 1 << 16, calls::every_edit),
     WRITE_BUS_EDIT,
-    Routine {
-        inputs: ", every bus, source and destination",
-        source: Source::Every(10 * 65_536, calls::every_bus_edit),
-        ..WRITE_BUS_EDIT
-    },
-    Routine {
-        inputs: AMOUNTS,
-        source: Source::Every(65_536, calls::every_amount),
-        ..WRITE_BUS_EDIT
-    },
-    Routine {
-        name: "write_bank",
-        inputs: "",
-        source: Source::Any(calls::write_bank),
-        library: |c| ffi::write_bank(c.first.get(), c.second.get_mut()).into(),
-        expected: |c| reference::write_bank(c.first.get(), c.second.get_mut()).into(),
-    },
+    WRITE_BUS_EDIT.on_every(BUS_EDITS, 10 << 16, calls::every_bus_edit),
+    WRITE_BUS_EDIT.on_every(AMOUNTS, 1 << 16, calls::every_amount),
+    WRITE_BANK,
+    WRITE_BANK.finding(found::in_bank),
 ];

@@ -1,7 +1,7 @@
 //! Slipped neighbours, every one on several dumps: a dump of a patch between two others, with two
 //! neighbouring bytes exchanged or the two nibbles of a packed byte replaced.
 
-use compare::ffi::A_CALL;
+use compare::ffi::{A_CALL, EMPTY};
 use reference::streams::damage::{damageable, low_nibble, Damage};
 use reference::streams::{inputs, Random};
 use reference::{write_edit_buffer, write_patch, PATCH_LENGTH};
@@ -69,7 +69,7 @@ fn read(random: &mut Random, stream: &[u8]) -> Call {
 /// Asks for all reports.
 fn reports(random: &mut Random, stream: &[u8]) -> Call {
     Call {
-        room: Lent::filled(random, 4 * A_CALL),
+        room: Lent::filled(random, A_CALL * EMPTY.len()),
         place: 0,
         ..read(random, stream)
     }

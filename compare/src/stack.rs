@@ -75,6 +75,11 @@ entries! {
     },
     place_of as matrix_place_of: |c, _| [c.bytes[0].into(), 0, 0, 0, 0, 0],
     parameter_of as matrix_parameter_of: |c, _| [c.bytes[0].into(), 0, 0, 0, 0, 0],
+    range_of as matrix_range_of: |c, struct_at| [struct_at, c.bytes[0].into(), 0, 0, 0, 0],
+    value_of as matrix_value_of: |c, struct_at| {
+        let (p, length) = read(&c.first);
+        [struct_at, p, length, c.bytes[0].into(), 0, 0]
+    },
     set_name as matrix_set_name: |c, _| {
         let (p, length) = written(&mut c.first);
         let (text, size) = read(&c.second);

@@ -38,6 +38,8 @@ pub struct Outcome {
     pub answer: u8,
     /// What the table names for that number, else 0.
     pub detail: usize,
+    /// With answer 11 the value found, with its sign where the field has one; else 0.
+    pub value: i16,
 }
 
 /// What the bank writer answers.
@@ -48,6 +50,8 @@ pub struct BankOutcome {
     pub answer: u8,
     /// What the table names for that number, else 0.
     pub detail: usize,
+    /// With answer 11 the value found, with its sign where the field has one; else 0.
+    pub value: i16,
     /// The number of the lowest bad patch with answers 11 and 12, else 0.
     pub place: usize,
 }
@@ -64,6 +68,8 @@ pub struct Report {
     pub answer: u8,
     /// The opcode with answer 0, else what the table names.
     pub detail: usize,
+    /// With answer 11 the value found, with its sign where the field has one; else 0.
+    pub value: i16,
 }
 
 /// What reading a record says of one message.
@@ -78,26 +84,72 @@ pub struct Reading {
     pub answer: u8,
     /// The opcode with answer 0, else what the table names.
     pub detail: usize,
+    /// With answer 11 the value found, with its sign where the field has one; else 0.
+    pub value: i16,
     /// A patch number, or an edit's two or four bytes, as received; zero elsewhere.
     pub bytes: [u8; 4],
 }
 
-/// An answer other than 0, with its detail.
+/// What is answered about a parameter's range.
+#[derive(Clone, Copy, Debug, PartialEq, Eq)]
+#[must_use]
+pub struct RangeOutcome {
+    /// 0, or 8 for a number that is no parameter's.
+    pub answer: u8,
+    /// Always 0.
+    pub detail: usize,
+    /// Always 0.
+    pub value: i16,
+    /// The least value, with its sign; 0 when refused.
+    pub least: i16,
+    /// The greatest value; 0 when refused.
+    pub greatest: i16,
+}
+
+/// What is answered about the value a parameter has in a patch.
+#[derive(Clone, Copy, Debug, PartialEq, Eq)]
+#[must_use]
+pub struct ValueOutcome {
+    /// One of the register's numbers.
+    pub answer: u8,
+    /// What the table names for that number, else 0.
+    pub detail: usize,
+    /// With answer 11 the value found, with its sign where the field has one; else 0.
+    pub value: i16,
+    /// The value the parameter has, with its sign; 0 when refused.
+    pub held: i16,
+}
+
+/// An answer other than 0, with its detail and with the value found.
 #[derive(Clone, Copy, Debug, PartialEq, Eq)]
 pub(crate) struct Refusal {
     pub answer: u8,
     pub detail: usize,
+    pub value: i16,
 }
 
 impl Refusal {
     /// A refusal for which the table names no detail.
     pub const fn plain(answer: u8) -> Self {
-        Self { answer, detail: 0 }
+        Self::at(answer, 0)
     }
 
     /// A refusal with its detail.
     pub const fn at(answer: u8, detail: usize) -> Self {
-        Self { answer, detail }
+        Self {
+            answer,
+            detail,
+            value: 0,
+        }
+    }
+
+    /// 11 with the place and the value found there.
+    pub const fn found(place: usize, value: i16) -> Self {
+        Self {
+            answer: OUT_OF_RANGE,
+            detail: place,
+            value,
+        }
     }
 }
 
@@ -107,8 +159,13 @@ impl From<Result<usize, Refusal>> for Outcome {
             Ok(detail) => Self {
                 answer: DONE,
                 detail,
+                value: 0,
             },
-            Err(Refusal { answer, detail }) => Self { answer, detail },
+            Err(refusal) => Self {
+                answer: refusal.answer,
+                detail: refusal.detail,
+                value: refusal.value,
+            },
         }
     }
 }

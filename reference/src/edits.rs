@@ -1,8 +1,8 @@
 //! Remote edits (06H) and matrix modulation edits (0BH), tested and applied.
 
-use crate::answers::{Outcome, Refusal, HALF_USED, NOT_ALLOWED, OUT_OF_RANGE};
-use crate::patch::{half_used, tested_mut, Patch, BUSES};
-use crate::table::{allows, place_of};
+use crate::answers::{Outcome, Refusal, HALF_USED, NOT_ALLOWED};
+use crate::patch::{half_used, test_field, tested_mut, Patch, BUSES};
+use crate::table::place_of;
 
 /// The one parameter that isn't extended: VCF frequency has seven bits and no sign.
 const VCF_FREQUENCY: u8 = 21;
@@ -43,7 +43,8 @@ pub(crate) struct Change {
 }
 
 impl Change {
-    /// The tests that reading, writing and applying share: 8, then 11.
+    /// The tests that reading, writing and applying share: 8, then 11 with the value that would be
+    /// stored.
     pub fn new(parameter: u8, value: u8) -> Result<Self, Refusal> {
         let place = match place_of(parameter) {
             Some(place) if value <= 127 => usize::from(place),
@@ -54,9 +55,7 @@ impl Change {
         } else {
             extend(value)
         };
-        if !allows(place, stored) {
-            return Err(Refusal::at(OUT_OF_RANGE, place));
-        }
+        test_field(place, stored)?;
         Ok(Self { place, stored })
     }
 
@@ -79,8 +78,8 @@ impl BusChange {
         }
         let place = BUSES + 3 * usize::from(bus);
         let stored = [source, extend(amount), destination];
-        if let Some(index) = (0..3).find(|&index| !allows(place + index, stored[index])) {
-            return Err(Refusal::at(OUT_OF_RANGE, place + index));
+        for (place, byte) in (place..).zip(stored) {
+            test_field(place, byte)?;
         }
         if half_used(source, destination) {
             return Err(Refusal::at(HALF_USED, usize::from(bus)));

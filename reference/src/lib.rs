@@ -5,7 +5,7 @@
 //!
 //! ```
 //! let input = [0x41, 0xF0, 0xF7, 0xF0, 0x10, 0x06, 0x06, 0x15, 0x7F, 0xF7, 0xF0];
-//! let text = "start end answer detail\n1 3 4 0\n3 10 0 6\n10 11 2 0\nmessages 3\n";
+//! let text = "start end answer detail value\n1 3 4 0 0\n3 10 0 6 0\n10 11 2 0 0\nmessages 3\n";
 //! assert_eq!(reference::listing(&input), text.as_bytes());
 //! ```
 
@@ -14,6 +14,7 @@
 
 pub mod answers;
 mod edits;
+mod fields;
 mod frames;
 pub mod kinds;
 mod listing;
@@ -26,14 +27,15 @@ pub mod streams;
 pub mod table;
 mod writing;
 
-pub use answers::{BankOutcome, Outcome, Reading, Report};
+pub use answers::{BankOutcome, Outcome, RangeOutcome, Reading, Report, ValueOutcome};
 pub use edits::{apply_bus_edit, apply_edit, extend};
+pub use fields::{range_of, value_of};
 pub use frames::is_real_time;
 pub use listing::{listing, LONGEST_INPUT};
 pub use names::{set_name, show_name, NAME_LENGTH};
 pub use patch::test_patch;
 pub use reading::{read, reports, walk, Reports};
-pub use table::{parameter_of, place_of, PATCH_LENGTH};
+pub use table::{outside, parameter_of, place_of, PATCH_LENGTH};
 pub use writing::{
     write_bank, write_bus_edit, write_edit, write_edit_buffer, write_master, write_patch,
     BANK_PATCHES,

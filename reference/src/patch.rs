@@ -1,7 +1,7 @@
 //! The tests of a patch: its length, its fields, its buses.
 
-use crate::answers::{Outcome, Refusal, HALF_USED, OUT_OF_RANGE, WRONG_LENGTH};
-use crate::table::{allows, GREATEST, LEAST, PATCH_LENGTH};
+use crate::answers::{Outcome, Refusal, HALF_USED, WRONG_LENGTH};
+use crate::table::{allows, value_at, GREATEST, LEAST, PATCH_LENGTH};
 
 /// The place of bus 0's source; three bytes to a bus.
 pub(crate) const BUSES: usize = 104;
@@ -9,7 +9,7 @@ pub(crate) const BUSES: usize = 104;
 /// A patch's packed bytes.
 pub(crate) type Patch = [u8; PATCH_LENGTH];
 
-/// Tests a patch: 7, then 11 with the lowest place, then 12 with the lowest bus.
+/// Tests a patch: 7, then 11 with the lowest place and its value, then 12 with the lowest bus.
 pub fn test_patch(patch: &[u8]) -> Outcome {
     tested(patch).map(|_| 0).into()
 }
@@ -38,10 +38,12 @@ pub(crate) fn sized_mut(patch: &mut [u8]) -> Result<&mut Patch, Refusal> {
     patch.try_into().map_err(|_| Refusal::plain(WRONG_LENGTH))
 }
 
-/// 11 with the lowest place, then 12 with the lowest bus.
+/// 11 with the lowest place and its value, then 12 with the lowest bus.
 pub(crate) fn test(patch: &Patch) -> Result<(), Refusal> {
-    if let Some(place) = first_out_of_range(patch) {
-        return Err(Refusal::at(OUT_OF_RANGE, place));
+    if out_of_range(patch) {
+        for (place, &byte) in patch.iter().enumerate() {
+            test_field(place, byte)?;
+        }
     }
     match first_half_used(patch) {
         Some(bus) => Err(Refusal::at(HALF_USED, bus)),
@@ -49,21 +51,24 @@ pub(crate) fn test(patch: &Patch) -> Result<(), Refusal> {
     }
 }
 
-fn first_out_of_range(patch: &Patch) -> Option<usize> {
-    // Without branches over the whole, since the usual patch is in range.
-    let outside =
-        patch
-            .iter()
-            .zip(&LEAST)
-            .zip(&GREATEST)
-            .fold(false, |any, ((byte, &least), &greatest)| {
-                let value = byte.cast_signed();
-                any | (value < least) | (value > greatest)
-            });
-    if !outside {
-        return None;
+/// 11 with the place and its value, for a byte that the field there doesn't allow.
+pub(crate) fn test_field(place: usize, byte: u8) -> Result<(), Refusal> {
+    if allows(place, byte) {
+        return Ok(());
     }
-    (0..PATCH_LENGTH).find(|&place| !allows(place, patch[place]))
+    Err(Refusal::found(place, value_at(place, byte)))
+}
+
+/// Whether any byte is out of range. The usual patch has none, and the whole has no branches.
+fn out_of_range(patch: &Patch) -> bool {
+    let ranges = LEAST.iter().zip(&GREATEST);
+    patch
+        .iter()
+        .zip(ranges)
+        .fold(false, |any, (byte, (&least, &greatest))| {
+            let value = byte.cast_signed();
+            any | (value < least) | (value > greatest)
+        })
 }
 
 fn first_half_used(patch: &Patch) -> Option<usize> {

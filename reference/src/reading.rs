@@ -15,15 +15,21 @@ pub fn walk(input: &[u8], place: usize) -> Report {
             end: input.len(),
             answer: NO_MESSAGE,
             detail: 0,
+            value: 0,
         };
     };
     let judged = Record::of(ending).map(|record| usize::from(record.opcode()));
-    let Outcome { answer, detail } = judged.into();
+    let Outcome {
+        answer,
+        detail,
+        value,
+    } = judged.into();
     Report {
         start,
         end,
         answer,
         detail,
+        value,
     }
 }
 
@@ -37,6 +43,7 @@ pub fn read(input: &[u8], place: usize, buffer: &mut [u8]) -> Reading {
             end: input.len(),
             answer: NO_MESSAGE,
             detail: 0,
+            value: 0,
             bytes: [0; 4],
         };
     };
@@ -50,12 +57,17 @@ pub fn read(input: &[u8], place: usize, buffer: &mut [u8]) -> Reading {
         bytes = record.bytes();
         Ok(usize::from(record.opcode()))
     });
-    let Outcome { answer, detail } = judged.into();
+    let Outcome {
+        answer,
+        detail,
+        value,
+    } = judged.into();
     Reading {
         start,
         end,
         answer,
         detail,
+        value,
         bytes,
     }
 }

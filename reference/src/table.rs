@@ -266,3 +266,21 @@ pub fn parameter_of(place: u8) -> Option<u8> {
 pub(crate) fn allows(place: usize, byte: u8) -> bool {
     (LEAST[place]..=GREATEST[place]).contains(&byte.cast_signed())
 }
+
+/// The value of a byte at a place: with its sign where the field has one, else the byte as it
+/// stands. A field has a sign exactly where its least value is below 0.
+pub(crate) fn value_at(place: usize, byte: u8) -> i16 {
+    if LEAST[place] < 0 {
+        byte.cast_signed().into()
+    } else {
+        byte.into()
+    }
+}
+
+/// All bytes that are out of range at a byte place, rising; none for a place that a patch lacks.
+#[must_use]
+pub fn outside(place: u8) -> Vec<u8> {
+    let place = usize::from(place);
+    let refused = |&byte: &u8| place < PATCH_LENGTH && !allows(place, byte);
+    (0..=255).filter(refused).collect()
+}

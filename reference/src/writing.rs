@@ -59,11 +59,13 @@ pub fn write_bank(patches: &[u8], out: &mut [u8]) -> BankOutcome {
         Ok(detail) => BankOutcome {
             answer: DONE,
             detail,
+            value: 0,
             place: 0,
         },
-        Err((place, Refusal { answer, detail })) => BankOutcome {
-            answer,
-            detail,
+        Err((place, refusal)) => BankOutcome {
+            answer: refusal.answer,
+            detail: refusal.detail,
+            value: refusal.value,
             place,
         },
     }

@@ -34,11 +34,12 @@ fn list(input: &[u8]) {
             Ok(Message::EditBuffer(patch)) => println!(" -  {}", patch.name()),
             Ok(_) => {}
             Err(error) => eprintln!(
-                "bytes {} to {}: {error} ({} {})",
+                "bytes {} to {}: {error} ({} {} {})",
                 found.start,
                 found.end,
                 error.number(),
-                error.detail()
+                error.detail(),
+                error.value()
             ),
         }
     }

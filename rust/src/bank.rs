@@ -63,10 +63,13 @@ impl Bank {
     /// lowest bad patch's own refusal, with its number.
     ///
     /// ```
-    /// use matrix1000::{Bank, Error};
+    /// use matrix1000::{Bank, Patch};
     ///
-    /// let refused = Bank::from_bytes(&[0; 134]).unwrap_err();
-    /// assert_eq!((refused.patch, refused.error), (0, Error::OutOfRange { place: 76 }));
+    /// let mut bytes = [Patch::default().to_bytes(); 2];
+    /// bytes[1][9] = 0xC0;
+    /// let refused = Bank::from_bytes(bytes.as_flattened()).unwrap_err();
+    /// assert_eq!(refused.patch, 1);
+    /// assert_eq!((refused.error.detail(), refused.error.value()), (9, 192));
     /// ```
     pub fn from_bytes(bytes: &[u8]) -> Result<Self, BankError> {
         Self::tested(bytes)?;

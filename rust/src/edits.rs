@@ -12,6 +12,14 @@ use crate::{Bus, Error, NotAllowed, Parameter, Patch};
 /// let mut patch = Patch::default();
 /// patch.apply(edit);
 /// assert_eq!(patch.get(Parameter::VCF_FREQUENCY), 127);
+///
+/// // A value is tested before it is sent: 100 and -28 have the same seven bits.
+/// let refused = Edit::new(Parameter::DCO_1_FREQUENCY_BY_LFO_1, 100).unwrap_err();
+/// assert_eq!((refused.detail(), refused.value()), (86, 100));
+/// assert_eq!(Edit::from_bytes(1, 100)?.value(), -28);
+/// // Sent bits are refused with what the field would get, here C0H.
+/// let refused = Edit::from_bytes(0, 0x40).unwrap_err();
+/// assert_eq!((refused.detail(), refused.value()), (9, 192));
 /// # Ok::<(), Error>(())
 /// ```
 #[derive(Clone, Copy, Debug, PartialEq, Eq, Hash)]
@@ -48,16 +56,14 @@ impl Edit {
     ///
     /// # Errors
     ///
-    /// [`Error::OutOfRange`] with the field's place.
+    /// [`Error::OutOfRange`] with the field's place and this value.
     pub fn new(parameter: Parameter, value: i16) -> Result<Self, Error> {
-        let sent = value.to_le_bytes()[0] & 0x7F;
-        let edit = Self::from_bytes(parameter.number(), sent)?;
         // Other values have the same seven bits; the field takes one of them.
-        if edit.value() != value {
+        if !parameter.range().contains(&value) {
             let place = parameter.place();
-            return Err(Error::OutOfRange { place });
+            return Err(Error::OutOfRange { place, value });
         }
-        Ok(edit)
+        Self::from_bytes(parameter.number(), value.to_le_bytes()[0] & 0x7F)
     }
 
     /// An edit as it is sent: the parameter's number and seven bits.
@@ -65,7 +71,7 @@ impl Edit {
     /// # Errors
     ///
     /// [`Error::NotAllowed`] for a number that is no parameter's and a value above 127, then
-    /// [`Error::OutOfRange`].
+    /// [`Error::OutOfRange`] with the value that the field would get.
     pub fn from_bytes(parameter: u8, value: u8) -> Result<Self, Error> {
         let tested = ffi::write_edit(parameter, value, &mut []);
         let parameter = Parameter::try_from(parameter)?;
@@ -99,8 +105,8 @@ impl BusEdit {
     ///
     /// # Errors
     ///
-    /// [`Error::NotAllowed`] for another bus, then [`Error::OutOfRange`] with the lowest place, an
-    /// amount outside -64 to 63 included, and [`Error::HalfUsed`].
+    /// [`Error::NotAllowed`] for another bus, then [`Error::OutOfRange`] with the lowest place and its
+    /// value, an amount outside -64 to 63 included, and [`Error::HalfUsed`].
     pub fn new(number: u8, bus: Bus) -> Result<Self, Error> {
         // Other amounts have the same seven bits; a patch holds all eight.
         Patch::default().set_bus(number.into(), bus)?;

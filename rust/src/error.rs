@@ -6,18 +6,20 @@ use crate::ffi;
 use crate::patch;
 use crate::{Bank, Kind, Master, Parameter, Patch};
 
-/// Why something was refused: the register's number with its detail, and in print a sentence that says
-/// what was found and what is expected.
+/// Why something was refused: the register's number with its detail and value, and in print a sentence
+/// that says what was found and what is expected.
 ///
 /// ```
 /// use matrix1000::{Error, NotAllowed, Patch};
 ///
-/// let error = Patch::try_from([0; 134]).unwrap_err();
-/// assert_eq!(error, Error::OutOfRange { place: 76 });
-/// assert_eq!((error.number(), error.detail()), (11, 76));
+/// let mut bytes = Patch::default().to_bytes();
+/// bytes[19] = 0xDF;
+/// let error = Patch::try_from(bytes).unwrap_err();
+/// assert!(matches!(error, Error::OutOfRange { place: 19, value: -33, .. }));
+/// assert_eq!((error.number(), error.detail(), error.value()), (11, 19, -33));
 /// assert_eq!(
 ///     error.to_string(),
-///     "Tracking Generator Input Source Code, byte 76 of the patch, is out of range: 1 to 20"
+///     "-33 is out of range for DCO 2 Detune, byte 19 of the patch: -32 to 31"
 /// );
 ///
 /// let error = Patch::default().set_name("Bass 1  ").unwrap_err();
@@ -44,6 +46,7 @@ pub enum Error {
     /// 8: a number or character is not allowed.
     NotAllowed(NotAllowed),
     /// 9: a data byte is above 15.
+    #[non_exhaustive]
     WideData {
         /// The first one's index in the data.
         index: usize,
@@ -51,16 +54,22 @@ pub enum Error {
     /// 10: the sum byte differs from the sum of the data.
     WrongSum,
     /// 11: a field is out of range.
+    #[non_exhaustive]
     OutOfRange {
         /// The lowest such byte place in the patch.
         place: usize,
+        /// The value there, with its sign where the field has one: the one found, the one that an
+        /// edit as it is sent would store, or the one asked for.
+        value: i16,
     },
     /// 12: a bus has a source and no destination, or a destination and no source.
+    #[non_exhaustive]
     HalfUsed {
         /// The lowest such bus.
         bus: usize,
     },
     /// 13: the output is too short.
+    #[non_exhaustive]
     NoRoom {
         /// How many bytes are to be written.
         needed: usize,
@@ -149,8 +158,17 @@ impl Error {
     pub const fn detail(&self) -> usize {
         match *self {
             Self::WideData { index } => index,
-            Self::OutOfRange { place } => place,
+            Self::OutOfRange { place, .. } => place,
             Self::HalfUsed { bus } => bus,
+            _ => 0,
+        }
+    }
+
+    /// The value that is out of range with number 11, else 0.
+    #[must_use]
+    pub const fn value(&self) -> i16 {
+        match *self {
+            Self::OutOfRange { value, .. } => value,
             _ => 0,
         }
     }
@@ -161,7 +179,11 @@ impl Error {
         outcome: ffi::Outcome,
         about: impl FnOnce(Bare) -> Self,
     ) -> Result<usize, Self> {
-        let ffi::Outcome { answer, detail } = outcome;
+        let ffi::Outcome {
+            answer,
+            value,
+            detail,
+        } = outcome;
         Err(match answer {
             0 => return Ok(detail),
             1 => Self::NoMessage,
@@ -174,7 +196,10 @@ impl Error {
             8 => about(Bare::Number),
             9 => Self::WideData { index: detail },
             10 => Self::WrongSum,
-            11 => Self::OutOfRange { place: detail },
+            11 => Self::OutOfRange {
+                place: detail,
+                value,
+            },
             12 => Self::HalfUsed { bus: detail },
             13 => about(Bare::Room),
             _ => unreachable!("the register has no number {answer}"),
@@ -206,15 +231,16 @@ impl fmt::Display for Error {
             Self::NotAllowed(what) => what.fmt(f),
             Self::WideData { index } => write!(f, "data byte {index} is above 15"),
             Self::WrongSum => f.write_str("the checksum does not fit the data"),
-            Self::OutOfRange { place } if *place >= Patch::LENGTH => {
-                write!(f, "byte {place} of the patch is out of range")
+            Self::OutOfRange { place, value } if *place >= Patch::LENGTH => {
+                write!(f, "{value} is out of range for byte {place} of the patch")
             }
-            Self::OutOfRange { place } => {
+            Self::OutOfRange { place, value } => {
                 let (what, range) = (patch::field_at(*place), patch::range_at(*place));
                 let (least, greatest) = range.into_inner();
                 write!(
                     f,
-                    "{what}, byte {place} of the patch, is out of range: {least} to {greatest}"
+                    "{value} is out of range for {what}, byte {place} of the patch: \
+                     {least} to {greatest}"
                 )
             }
             Self::HalfUsed { bus } => write!(

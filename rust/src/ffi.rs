@@ -13,6 +13,8 @@
 pub struct Outcome {
     /// One of the register's numbers.
     pub answer: u8,
+    /// The value that is out of range with answer 11, with its sign where the field has one, else 0.
+    pub value: i16,
     /// What the register names for that number, else 0.
     pub detail: usize,
 }
@@ -49,6 +51,28 @@ pub struct BankOutcome {
     pub place: usize,
 }
 
+/// The range of a parameter.
+#[repr(C)]
+#[derive(Clone, Copy, Debug, PartialEq, Eq)]
+pub struct Range {
+    /// What the call came to.
+    pub outcome: Outcome,
+    /// The least value, 0 when refused.
+    pub least: i16,
+    /// The greatest value, 0 when refused.
+    pub greatest: i16,
+}
+
+/// What a parameter has in a patch.
+#[repr(C)]
+#[derive(Clone, Copy, Debug, PartialEq, Eq)]
+pub struct Held {
+    /// What the call came to.
+    pub outcome: Outcome,
+    /// The value with its sign, 0 when refused.
+    pub value: i16,
+}
+
 /// What listing reports came to.
 #[repr(C)]
 #[derive(Clone, Copy, Debug, PartialEq, Eq)]
@@ -62,20 +86,25 @@ pub struct Listed {
 /// The most reports that the library makes in a call.
 pub const A_CALL: usize = 8;
 
-/// A report as it stands in the room that is lent for reports.
-pub type Flat = [usize; 4];
+/// A report as it stands in the room that is lent for reports: start, end, answer, detail, value.
+pub type Flat = [usize; 5];
 
 /// Room for a report.
-pub const EMPTY: Flat = [0; 4];
+pub const EMPTY: Flat = [0; 5];
 
 impl From<Flat> for Report {
     #[inline]
-    fn from([start, end, answer, detail]: Flat) -> Self {
+    fn from([start, end, answer, detail, value]: Flat) -> Self {
         let answer = u8::try_from(answer).expect("an answer is a byte");
+        let value = i16::try_from(value.cast_signed()).expect("a value has sixteen bits");
         Self {
             start,
             end,
-            outcome: Outcome { answer, detail },
+            outcome: Outcome {
+                answer,
+                value,
+                detail,
+            },
         }
     }
 }
@@ -84,7 +113,7 @@ impl From<Flat> for Report {
 pub const NONE: u8 = 255;
 
 mod raw {
-    use super::{BankOutcome, Listed, Outcome, Reading, Report};
+    use super::{BankOutcome, Held, Listed, Outcome, Range, Reading, Report};
 
     unsafe extern "C" {
         pub unsafe fn matrix_walk(s: *const u8, s_len: usize, place: usize) -> Report;
@@ -105,6 +134,8 @@ mod raw {
         pub unsafe fn matrix_test_patch(p: *const u8, p_len: usize) -> Outcome;
         pub safe fn matrix_place_of(parameter: u8) -> u8;
         pub safe fn matrix_parameter_of(place: u8) -> u8;
+        pub safe fn matrix_range_of(parameter: u8) -> Range;
+        pub unsafe fn matrix_value_of(p: *const u8, p_len: usize, parameter: u8) -> Held;
         pub unsafe fn matrix_set_name(
             p: *mut u8,
             p_len: usize,
@@ -219,6 +250,19 @@ pub fn place_of(parameter: u8) -> u8 {
 #[inline]
 pub fn parameter_of(place: u8) -> u8 {
     raw::matrix_parameter_of(place)
+}
+
+/// The range of a parameter.
+#[inline]
+pub fn range_of(parameter: u8) -> Range {
+    raw::matrix_range_of(parameter)
+}
+
+/// What a parameter has in a patch.
+#[inline]
+pub fn value_of(p: &[u8], parameter: u8) -> Held {
+    // SAFETY: one slice with its own length, not written.
+    unsafe { raw::matrix_value_of(p.as_ptr(), p.len(), parameter) }
 }
 
 /// Sets a patch's name.

@@ -1,8 +1,8 @@
 //! Oberheim Matrix-1000 system exclusive dumps: reading, testing, editing and writing.
 //!
 //! A safe face of a library that is proved. What a message is, which are refused and why, what a
-//! field may hold and what a dump's bytes are is all decided there. Here only what cannot be put into
-//! the library's bytes is refused, by the same numbers.
+//! field may hold and what a dump's bytes are is all decided there. Here only a value outside the range
+//! that the library tells, and what cannot be put into its bytes, is refused, by the same numbers.
 //!
 //! ```
 //! use matrix1000::{messages, Error, Message, Parameter, Patch};

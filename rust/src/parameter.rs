@@ -5,7 +5,7 @@ use std::ops::RangeInclusive;
 use std::str::FromStr;
 
 use crate::ffi;
-use crate::{patch, Error, NotAllowed, Patch};
+use crate::{Error, NotAllowed, Patch};
 
 /// A parameter number, one of the 96 that have a byte in the patch.
 ///
@@ -59,10 +59,12 @@ impl Parameter {
         (0..Patch::LENGTH).filter_map(Self::at)
     }
 
-    /// The values that its field takes, asked of the library.
+    /// The values that its field takes.
     #[must_use]
     pub fn range(self) -> RangeInclusive<i16> {
-        patch::range_at(self.place())
+        let range = ffi::range_of(self.0);
+        debug_assert_eq!(range.outcome.answer, 0, "a parameter");
+        range.least..=range.greatest
     }
 }
 

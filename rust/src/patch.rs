@@ -22,7 +22,8 @@ use crate::{BusEdit, Edit, Error, Length, NotAllowed, Parameter};
 /// patch.set(Parameter::DCO_2_DETUNE, -32)?;
 /// assert_eq!(patch.get(Parameter::DCO_2_DETUNE), -32);
 /// assert_eq!(patch.as_bytes()[19], 0xE0);
-/// assert_eq!(patch.set(Parameter::DCO_2_DETUNE, 32), Err(Error::OutOfRange { place: 19 }));
+/// let refused = patch.set(Parameter::DCO_2_DETUNE, 32).unwrap_err();
+/// assert_eq!((refused.detail(), refused.value()), (19, 32));
 /// # Ok::<(), Error>(())
 /// ```
 #[derive(Clone, Copy, PartialEq, Eq, Hash)]
@@ -104,21 +105,18 @@ impl Patch {
     /// A field's value, with its sign.
     #[must_use]
     pub fn get(&self, parameter: Parameter) -> i16 {
-        // Every field lies in -64..=127, so the byte read as signed is its value.
-        self.0[parameter.place()].cast_signed().into()
+        let held = ffi::value_of(&self.0, parameter.number());
+        debug_assert_eq!(held.outcome.answer, 0, "a tested patch, and a parameter");
+        held.value
     }
 
     /// Sets a field.
     ///
     /// # Errors
     ///
-    /// [`Error::OutOfRange`] with the field's place. The patch is then kept.
+    /// [`Error::OutOfRange`] with the field's place and this value. The patch is then kept.
     pub fn set(&mut self, parameter: Parameter, value: i16) -> Result<(), Error> {
-        let place = parameter.place();
-        let value = i8::try_from(value).map_err(|_| Error::OutOfRange { place })?;
-        let mut changed = self.0;
-        changed[place] = value.cast_unsigned();
-        *self = Self::try_from(changed)?;
+        self.apply(Edit::new(parameter, value)?);
         Ok(())
     }
 
@@ -151,7 +149,8 @@ impl Patch {
     /// assert_eq!(patch.bus(9), Some(bus));
     /// assert_eq!(patch.as_bytes()[131..], [0x14, 0xC0, 0x20]);
     /// let none_such = Bus { destination: 33, ..bus };
-    /// assert_eq!(patch.set_bus(9, none_such), Err(Error::OutOfRange { place: 133 }));
+    /// let refused = patch.set_bus(9, none_such).unwrap_err();
+    /// assert_eq!((refused.number(), refused.detail(), refused.value()), (11, 133, 33));
     /// # Ok::<(), Error>(())
     /// ```
     pub fn set_bus(&mut self, number: usize, bus: Bus) -> Result<(), Error> {
@@ -188,11 +187,15 @@ fn in_names(character: char) -> bool {
 
 /// The values that the library takes at a byte place of a patch, from the least to the greatest.
 pub(crate) fn range_at(place: usize) -> RangeInclusive<i16> {
-    let refusal = Err(Error::OutOfRange { place });
+    if let Some(parameter) = Parameter::at(place) {
+        return parameter.range();
+    }
+    // Names and buses have no parameter to ask for. Every field lies in -64..=127, so a byte that is
+    // taken is, read as signed, its value.
     let taken = |value: &i8| {
         let mut bytes = Patch::default().0;
         bytes[place] = value.cast_unsigned();
-        Patch::try_from(bytes) != refusal
+        ffi::test_patch(&bytes).answer != 11
     };
     let mut values = (i8::MIN..=i8::MAX).filter(taken).map(i16::from);
     let least = values.next().expect("a field takes a value");

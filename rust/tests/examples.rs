@@ -4,8 +4,8 @@ use std::collections::BTreeMap;
 use std::io::{self, Write};
 
 use matrix1000::{
-    messages, reports, to_vec, to_writer, Bank, Bus, BusEdit, Edit, Error, Kind, Length, Master,
-    Message, NotAllowed, Parameter, Patch,
+    messages, report_at, reports, to_vec, to_writer, Bank, Bus, BusEdit, Edit, Error, Kind, Length,
+    Master, Message, NotAllowed, Parameter, Patch,
 };
 
 const fn wrong_length(length: Length) -> Error {
@@ -14,6 +14,17 @@ const fn wrong_length(length: Length) -> Error {
 
 const fn not_allowed(what: NotAllowed) -> Error {
     Error::NotAllowed(what)
+}
+
+/// The register's number, detail and value of a refusal.
+fn refusal<T>(result: Result<T, Error>) -> (u8, usize, i16) {
+    let error = result.map(drop).unwrap_err();
+    (error.number(), error.detail(), error.value())
+}
+
+/// A refusal by 11, with the byte place and the value there.
+const fn found(place: usize, value: i16) -> (u8, usize, i16) {
+    (11, place, value)
 }
 
 fn dump(number: u8, patch: Patch) -> Vec<u8> {
@@ -70,22 +81,19 @@ fn a_bus() {
         destination: 0,
         ..bus
     };
-    assert_eq!(patch.set_bus(0, half), Err(Error::HalfUsed { bus: 0 }));
-    assert_eq!(BusEdit::new(0, half), Err(Error::HalfUsed { bus: 0 }));
+    assert_eq!(refusal(patch.set_bus(0, half)), (12, 0, 0));
+    assert_eq!(refusal(BusEdit::new(0, half)), (12, 0, 0));
     for amount in [-65, 64, 127, -128] {
         let outside = Bus { amount, ..bus };
-        let refused = Err(Error::OutOfRange { place: 105 });
-        assert_eq!(patch.set_bus(0, outside), refused);
-        assert_eq!(BusEdit::new(0, outside).map(drop), refused);
+        let refused = found(105, amount.into());
+        assert_eq!(refusal(patch.set_bus(0, outside)), refused);
+        assert_eq!(refusal(BusEdit::new(0, outside)), refused);
         assert_eq!(BusEdit::new(10, outside), Err(bus_10));
         let lowest = Bus {
-            source: 21,
+            source: 200,
             ..outside
         };
-        assert_eq!(
-            BusEdit::new(0, lowest),
-            Err(Error::OutOfRange { place: 104 })
-        );
+        assert_eq!(refusal(BusEdit::new(0, lowest)), found(104, 200));
     }
     assert_eq!(patch.bus(0), Some(bus));
 }
@@ -94,10 +102,66 @@ fn a_bus() {
 fn dump_with(place: usize, bytes: &[u8]) -> Vec<u8> {
     let mut dump = dump(0, Patch::default());
     for (at, byte) in (5 + 2 * place..).step_by(2).zip(bytes) {
+        let more = byte.wrapping_sub(dump[at] + 16 * dump[at + 1]);
         (dump[at], dump[at + 1]) = (byte % 16, byte / 16);
-        dump[273] = dump[273].wrapping_add(*byte) % 128;
+        dump[273] = dump[273].wrapping_add(more) % 128;
     }
     dump
+}
+
+#[test]
+fn what_is_found() {
+    let fields = [
+        (0, 0x40, 64),
+        (9, 0xC0, 192),
+        (19, 0xDF, -33),
+        (19, 0x20, 32),
+        (26, 0xFF, 255),
+        (76, 0, 0),
+        (86, 0x80, -128),
+        (105, 0xBF, -65),
+        (132, 0x40, 64),
+    ];
+    for (place, byte, value) in fields {
+        let mut bank = [Patch::default().to_bytes(); 2];
+        bank[1][place] = byte;
+        assert_eq!(refusal(Patch::try_from(bank[1])), found(place, value));
+        let refused = Bank::from_bytes(bank.as_flattened()).unwrap_err();
+        let of_bank = refusal::<()>(Err(refused.error));
+        assert_eq!((refused.patch, of_bank), (1, found(place, value)));
+
+        let dump = dump_with(place, &[byte]);
+        assert_eq!(refusal(Message::read(&dump)), found(place, value));
+        let report = reports(&dump).next().unwrap();
+        assert_eq!(refusal(report.kind), found(place, value));
+        let report = report_at(&dump, 0).unwrap();
+        assert_eq!(refusal(report.kind), found(place, value));
+    }
+}
+
+#[test]
+fn a_refused_edit_tells_what_was_asked_for_or_sent() {
+    let mut patch = Patch::default();
+    // 64 sent as seven bits is C0H stored; 100 is -28, which the field takes.
+    let asked = [
+        (Parameter::DCO_1_FREQUENCY, 64, found(9, 64)),
+        (Parameter::DCO_1_FREQUENCY, 192, found(9, 192)),
+        (Parameter::DCO_1_FREQUENCY_BY_LFO_1, 100, found(86, 100)),
+        (Parameter::DCO_1_FREQUENCY_BY_LFO_1, -65, found(86, -65)),
+        (Parameter::DCO_2_DETUNE, i16::MIN, found(19, i16::MIN)),
+    ];
+    for (parameter, value, expected) in asked {
+        assert_eq!(refusal(Edit::new(parameter, value)), expected);
+        assert_eq!(refusal(patch.set(parameter, value)), expected);
+    }
+    assert_eq!(patch, Patch::default());
+    let sent = [0xF0, 0x10, 0x06, 0x06, 0x00, 0x40, 0xF7];
+    assert_eq!(refusal(Message::read(&sent)), found(9, 192));
+    let amount = Edit::from_bytes(1, 100).unwrap();
+    assert_eq!(amount.value(), -28);
+    patch.apply(amount);
+    assert_eq!(patch.get(Parameter::DCO_1_FREQUENCY_BY_LFO_1), -28);
+    assert_eq!(patch.as_bytes()[86], 0xE4);
 }
 
 #[test]
@@ -115,11 +179,10 @@ fn destinations_are_0_to_32() {
         let edit = BusEdit::new(number, bus);
         let read = Message::try_from(dump_with(place - 2, &bytes).as_slice());
         if destination > 32 {
-            let refused = Error::OutOfRange { place };
-            assert_eq!(
-                (set, edit, read),
-                (Err(refused), Err(refused), Err(refused))
-            );
+            let refused = found(place, destination.into());
+            assert_eq!(refusal(set), refused);
+            assert_eq!(refusal(edit), refused);
+            assert_eq!(refusal(read), refused);
             assert_eq!(patch, Patch::default());
         } else {
             assert_eq!(patch.as_bytes()[place - 2..=place], bytes);
@@ -146,12 +209,9 @@ fn values_of_edits_are_extended() {
     let detune = |value| Edit::from_bytes(0x0C, value).map(Edit::value);
     assert_eq!(detune(0x60), Ok(-32));
     assert_eq!(detune(0x1F), Ok(31));
-    assert_eq!(detune(0x5F), Err(Error::OutOfRange { place: 19 }));
-    assert_eq!(detune(0x20), Err(Error::OutOfRange { place: 19 }));
-    assert_eq!(
-        Edit::from_bytes(0x00, 0x40),
-        Err(Error::OutOfRange { place: 9 })
-    );
+    assert_eq!(refusal(detune(0x5F)), found(19, -33));
+    assert_eq!(refusal(detune(0x20)), found(19, 32));
+    assert_eq!(refusal(Edit::from_bytes(0x00, 0x40)), found(9, 192));
     let parameter_39 = not_allowed(NotAllowed::Parameter(39));
     assert_eq!(Edit::from_bytes(39, 0), Err(parameter_39));
     assert_eq!(Edit::try_from([39, 0x80]), Err(parameter_39));
@@ -166,20 +226,20 @@ fn lengths_and_numbers() {
     let patch = Patch::default();
     let message = Message::Patch { number: 99, patch };
     let mut out = [0xA5; 276];
-    let no_room = Error::NoRoom {
-        needed: 275,
-        given: 274,
-    };
-    assert_eq!(message.write_to_slice(&mut out[..274]), Err(no_room));
+    assert!(matches!(
+        message.write_to_slice(&mut out[..274]),
+        Err(Error::NoRoom {
+            needed: 275,
+            given: 274,
+            ..
+        })
+    ));
     assert_eq!(out, [0xA5; 276]);
     assert_eq!(message.write_to_slice(&mut out), Ok(275));
     assert_eq!((out[274], out[275]), (0xF7, 0xA5));
     let refused = Message::Patch { number: 100, patch }.write_to_slice(&mut out);
     assert_eq!(refused, Err(not_allowed(NotAllowed::PatchNumber(100))));
-    assert_eq!(
-        Patch::try_from([0; 134]),
-        Err(Error::OutOfRange { place: 76 })
-    );
+    assert_eq!(refusal(Patch::try_from([0; 134])), found(76, 0));
     assert_eq!(
         Patch::try_from(&[0; 133][..]),
         Err(wrong_length(Length::Patch(133)))
@@ -259,11 +319,14 @@ fn banks() {
         .map(|found| found.message.unwrap())
         .collect::<Vec<_>>();
     assert_eq!(found, bank.messages().collect::<Vec<_>>());
-    let no_room = Error::NoRoom {
-        needed: 825,
-        given: 824,
-    };
-    assert_eq!(bank.write_to_slice(&mut [0; 3 * 275 - 1]), Err(no_room));
+    assert!(matches!(
+        bank.write_to_slice(&mut [0; 3 * 275 - 1]),
+        Err(Error::NoRoom {
+            needed: 825,
+            given: 824,
+            ..
+        })
+    ));
     let mut written = Vec::new();
     assert_eq!(bank.write_to(&mut written).unwrap(), 825);
     assert_eq!(written, bank.to_vec());
@@ -279,10 +342,8 @@ fn banks() {
     let mut bytes = bank.as_bytes().to_vec();
     bytes[134 + 104] = 1;
     let refused = Bank::from_bytes(&bytes).unwrap_err();
-    assert_eq!(
-        (refused.patch, refused.error),
-        (1, Error::HalfUsed { bus: 0 })
-    );
+    assert!(matches!(refused.error, Error::HalfUsed { bus: 0, .. }));
+    assert_eq!(refused.patch, 1);
     assert_eq!(
         refused.to_string(),
         "patch 1 of the bank: modulation bus 0 is half used: \
@@ -302,7 +363,7 @@ fn numbered_patches_keep_their_numbers() {
         match found.message {
             Ok(Message::Patch { number, patch }) => patches.insert(number, patch),
             refused => {
-                assert_eq!(refused, Err(Error::WideData { index: 95 }));
+                assert_eq!(refusal(refused), (9, 95, 0));
                 continue;
             }
         };

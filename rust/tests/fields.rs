@@ -59,6 +59,11 @@ fn the_header_for_c_names_the_same_parameters() {
     }
 }
 
+/// The register's number, detail and value.
+const fn refusal(error: Error) -> (u8, usize, i16) {
+    (error.number(), error.detail(), error.value())
+}
+
 #[test]
 fn a_field_takes_a_range_and_changes_nothing_else() {
     let patch = Patch::default();
@@ -76,7 +81,7 @@ fn a_field_takes_a_range_and_changes_nothing_else() {
                     assert_eq!(changed.to_bytes(), expected);
                 }
                 Err(error) => {
-                    assert_eq!(error, Error::OutOfRange { place });
+                    assert_eq!(refusal(error), (11, place, value));
                     assert_eq!(changed, patch);
                 }
             }
@@ -90,12 +95,31 @@ fn a_field_takes_a_range_and_changes_nothing_else() {
                     assert_eq!(taken.last(), Some(&value));
                 }
                 Err(error) => {
-                    assert_eq!(error, Error::OutOfRange { place });
+                    assert_eq!(refusal(error), (11, place, value));
                     assert_ne!(taken.last(), Some(&value));
                 }
             }
         }
         assert_eq!(taken, parameter.range().collect::<Vec<_>>(), "{parameter}");
+    }
+}
+
+/// Byte 19, bytes 86 to 103 and the amounts of the buses.
+fn has_sign(place: usize) -> bool {
+    place == 19 || (86..=103).contains(&place) || (place >= 105 && place.is_multiple_of(3))
+}
+
+#[test]
+fn a_value_has_its_sign_where_the_field_has_one() {
+    for place in 0..Patch::LENGTH {
+        let mut bytes = Patch::default().to_bytes();
+        bytes[place] = 0x80;
+        let error = Patch::try_from(bytes).unwrap_err();
+        let value = if has_sign(place) { -128 } else { 128 };
+        assert_eq!(refusal(error), (11, place, value));
+        if let Some(parameter) = Parameter::at(place) {
+            assert_eq!(*parameter.range().start() < 0, has_sign(place));
+        }
     }
 }
 

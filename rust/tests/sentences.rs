@@ -60,7 +60,15 @@ fn of_what_is_handed_in() {
     );
     says(
         patch.set(Parameter::DCO_2_DETUNE, 32),
-        "DCO 2 Detune, byte 19 of the patch, is out of range: -32 to 31",
+        "32 is out of range for DCO 2 Detune, byte 19 of the patch: -32 to 31",
+    );
+    says(
+        Edit::new(Parameter::DCO_1_FREQUENCY, 64),
+        "64 is out of range for DCO 1 Initial Frequency, byte 9 of the patch: 0 to 63",
+    );
+    says(
+        Edit::from_bytes(0, 64),
+        "192 is out of range for DCO 1 Initial Frequency, byte 9 of the patch: 0 to 63",
     );
 }
 
@@ -73,31 +81,38 @@ fn of_every_byte_of_a_patch() {
     };
     says(
         refused(7),
-        "character 7 of the name, byte 7 of the patch, is out of range: 0 to 63",
+        "128 is out of range for character 7 of the name, byte 7 of the patch: 0 to 63",
     );
     says(
         refused(26),
-        "VCF Initial Frequency, byte 26 of the patch, is out of range: 0 to 127",
+        "128 is out of range for VCF Initial Frequency, byte 26 of the patch: 0 to 127",
     );
     says(
         refused(104),
-        "the source of bus 0, byte 104 of the patch, is out of range: 0 to 20",
+        "128 is out of range for the source of bus 0, byte 104 of the patch: 0 to 20",
     );
     says(
         refused(132),
-        "the amount of bus 9, byte 132 of the patch, is out of range: -64 to 63",
+        "-128 is out of range for the amount of bus 9, byte 132 of the patch: -64 to 63",
     );
     says(
         refused(133),
-        "the destination of bus 9, byte 133 of the patch, is out of range: 0 to 32",
+        "128 is out of range for the destination of bus 9, byte 133 of the patch: 0 to 32",
     );
     for place in 0..Patch::LENGTH {
         let error = refused(place).unwrap_err();
-        assert_eq!(error, Error::OutOfRange { place });
-        assert!(error.to_string().contains(" is out of range: "));
+        assert_eq!((error.number(), error.detail()), (11, place));
+        assert!(error.to_string().contains("128 is out of range for "));
     }
-    let outside = Error::OutOfRange { place: 134 };
-    assert_eq!(outside.to_string(), "byte 134 of the patch is out of range");
+    // Nothing more is said of a place that no patch has.
+    let mut error = refused(0).unwrap_err();
+    if let Error::OutOfRange { place, .. } = &mut error {
+        *place = 134;
+    }
+    assert_eq!(
+        error.to_string(),
+        "128 is out of range for byte 134 of the patch"
+    );
 }
 
 /// A message with this behind F0H 10H 06H.

@@ -7,17 +7,17 @@ use matrix1000::{messages, report_at, reports, Error, Kind};
 
 /// A line of the listing.
 fn line(start: usize, end: usize, kind: Result<Kind, Error>) -> String {
-    let (answer, detail) = match kind {
-        Ok(kind) => (0, kind.opcode().into()),
-        Err(error) => (error.number(), error.detail()),
+    let (answer, detail, value) = match kind {
+        Ok(kind) => (0, kind.opcode().into(), 0),
+        Err(error) => (error.number(), error.detail(), error.value()),
     };
-    format!("{start} {end} {answer} {detail}\n")
+    format!("{start} {end} {answer} {detail} {value}\n")
 }
 
 fn listing(lines: impl Iterator<Item = String>) -> String {
     let lines: Vec<String> = lines.collect();
     let (text, count) = (lines.concat(), lines.len());
-    format!("start end answer detail\n{text}messages {count}\n")
+    format!("start end answer detail value\n{text}messages {count}\n")
 }
 
 #[test]

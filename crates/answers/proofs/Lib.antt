@@ -2,3 +2,4 @@ pub mod Lists
 pub mod Rows
 pub mod Effects
 pub mod Copied
+pub mod Signed

@@ -10,7 +10,8 @@ use lib.Dec.{eqb}
 use borrow.Author.Tests.{eqb-true, not-false}
 use Rattle.answers.specs.declared.Outcome.{Outcome}
 use Rattle.answers.specs.Lists.{All}
-use Rattle.answers.specs.Table.{Row, row, rowAt, numberOf, Verdict, done, refused, unless, first, outcome, outcomeOf, answerOf, says}
+use Rattle.answers.specs.Table.{Row, row, rowAt, rowFound, numberOf, found, Verdict, done, refused, unless, first}
+use Rattle.answers.specs.Table.{outcome, outcomeAt, outcomeOf, answerOf, says, Found}
 use Rattle.answers.specs.Effect.{tested}
 use Rattle.answers.proofs.Lists.{all-append, all-left, all-right}
 use Rattle.answers.specs.promises.Decides.{Decides, FirstSays, Silent}
@@ -47,6 +48,8 @@ heard (row n true) = something (outcome n 0) refl
 heard (row n false) = nothing refl
 heard (rowAt n (some d)) = something (outcome n d) refl
 heard (rowAt n none) = nothing refl
+heard (rowFound n (some (found k v))) = something (outcomeAt n k v) refl
+heard (rowFound n none) = nothing refl
 
 -- A row that says nothing wherever the rows before it say nothing may stand there or not.
 pub needless : (before : List Row) (r : Row) (after : List Row) (v : Verdict) → (Silent before → says r ≡ none)
@@ -97,6 +100,10 @@ pub row-at-silent : (n : ℕ) (o : Option ℕ) → says (rowAt n o) ≡ none →
 row-at-silent n (some d) e = let z : _≡_ {A = ℕ} 0 1 = cc in absurd (omega arith)
 row-at-silent n none e = refl
 
+pub row-found-silent : (n : ℕ) (o : Option Found) → says (rowFound n o) ≡ none → o ≡ none
+row-found-silent n (some (found k v)) e = let z : _≡_ {A = ℕ} 0 1 = cc in absurd (omega arith)
+row-found-silent n none e = refl
+
 -- Two numbers that it compares are equal.
 pub row-equal : (n a b : ℕ) → says (row n (not (eqb a b))) ≡ none → a ≡ b
 row-equal n a b e = eqb-true a b (not-false (eqb a b) (row-silent n (not (eqb a b)) e))
@@ -107,6 +114,8 @@ said-number (row n true) o e = let same : outcome n 0 ≡ o = cc in ap (λ (x : 
 said-number (row n false) o e = let z : _≡_ {A = ℕ} 0 1 = cc in absurd (omega arith)
 said-number (rowAt n (some d)) o e = let same : outcome n d ≡ o = cc in ap (λ (x : Outcome). x .answer) same
 said-number (rowAt n none) o e = let z : _≡_ {A = ℕ} 0 1 = cc in absurd (omega arith)
+said-number (rowFound n (some (found k v))) o e = let same : outcomeAt n k v ≡ o = cc in ap (λ (x : Outcome). x .answer) same
+said-number (rowFound n none) o e = let z : _≡_ {A = ℕ} 0 1 = cc in absurd (omega arith)
 
 -- A refusal's number is that of one of the rows: what holds of every row's number holds of it.
 pub first-number : (P : ℕ → Type 0) (rows : List Row) (n : ℕ) (b p : List ℕ) (o : Outcome) → All (λ (r : Row). P (numberOf r)) rows
@@ -186,7 +195,7 @@ decides rows detail b p o a e = record {
   );
   with-detail = λ z.
       let s = zero-silent rows (done detail b p) a (sym (ap (λ (x : Outcome). x .answer) e) ∙ z) in
-      ap (λ (x : Outcome). x .detail) (e ∙ ap outcomeOf (first-passed rows (done detail b p) s));
+      e ∙ ap outcomeOf (first-passed rows (done detail b p) s);
 }
   where
     by-answer : (v : Verdict) (r : Outcome) → (r .answer ≡ 0 → ⊥) → outcomeOf v ≡ r → v ≡ refused r

@@ -1,6 +1,7 @@
 // The register's numbers, and the answer of a routine that has no place of its own.
 ghost use mathlib.Core.Path.{_≡_};
-ghost use Rattle.answers.specs.Table.{outcome};
+ghost use Rattle.answers.specs.Table.{outcome, outcomeAt};
+ghost use Rattle.answers.specs.code.Numbers.{asNumber};
 
 // Document 01, 'Numbers the register prints'.
 pub const DONE: u8 = 0;
@@ -33,10 +34,15 @@ pub const NO_ROOM: u8 = 13;
 
 // 14 is withdrawn.
 
-// An answer and its detail.
+// The greatest number of 64 bits.
+const LAST: usize = 0xFFFF_FFFF_FFFF_FFFF;
+
+// An answer and its detail; with 11 also the value that was found, with its sign, and 0 with every other answer. In this order it has
+// sixteen bytes, which two registers take.
 #[repr(C)]
 pub struct Outcome {
     pub answer: u8,
+    pub value: i16,
     pub detail: usize,
 }
 
@@ -46,6 +52,7 @@ pub fn done(detail: usize) -> Outcome
 {
     Outcome {
         answer: DONE,
+        value: 0,
         detail,
     }
 }
@@ -54,5 +61,31 @@ pub fn done(detail: usize) -> Outcome
 pub fn refused(answer: u8, detail: usize) -> Outcome
     ensures { λ r. ⌜ r ≡ outcome answer detail ⌝ }
 {
-    Outcome { answer, detail }
+    Outcome {
+        answer,
+        value: 0,
+        detail,
+    }
+}
+
+// Refused by 11, with the place and the value found there.
+pub fn out_of_range(place: usize, value: i16) -> Outcome
+    ensures { λ r. ⌜ r ≡ outcomeAt 11 place value ⌝ }
+{
+    Outcome {
+        answer: OUT_OF_RANGE,
+        value,
+        detail: place,
+    }
+}
+
+// A value as a number of 64 bits, in two's complement: as C converts it.
+pub fn as_number(value: i16) -> usize
+    ensures { λ r. ⌜ r ≡ asNumber value ⌝ }
+{
+    if value < 0 {
+        let size = (0 - value as i32) as usize;
+        return LAST - size + 1;
+    }
+    value as usize
 }

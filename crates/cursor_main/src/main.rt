@@ -1,5 +1,5 @@
-// Prints the reports of the messages on standard input, a line each: start, end, answer and detail; behind one with answer 0, the four
-// bytes that come with its record. Each is asked of the cursor crate, from the last end.
+// Prints the reports of the messages on standard input, a line each: start, end, answer, detail and value; behind one with answer 0, the
+// four bytes that come with its record. Each is asked of the cursor crate, from the last end.
 use answers::DONE;
 use answers::NO_MESSAGE;
 use libc::STDIN_FILENO;
@@ -7,34 +7,38 @@ use libc::STDOUT_FILENO;
 use messages::kinds::MASTER;
 use reading::recording::Reading;
 use reading::walking::Report;
-ghost use mathlib.Core.List.{[], _∷_, _++_};
 ghost use Rattle.answers.specs.Table.{four};
 ghost use Rattle.io.specs.Counts.{Counts};
-ghost use Rattle.text.specs.Text.{ascii, row, Puts};
+ghost use Rattle.text.specs.Text.{Puts};
+ghost use Rattle.listing.specs.Listing.{line};
+ghost use Rattle.cursor_main.specs.Records.{recordLine};
 
 // A report's line.
 fn put_report(r: Report, room: &mut [u8]) -> usize
-    ensures { λ n. ⌜ Puts (row (r .start ∷ r .end ∷ r .outcome .answer ∷ r .outcome .detail ∷ [])) (now (room .entry)) 0 (now (room .exit)) n ⌝ }
+    ensures { λ n. ⌜ Puts (line (r .start) (r .end) (r .outcome)) (now (room .entry)) 0 (now (room .exit)) n ⌝ }
     ensures { λ n. ⌜ Counts n (now (room .exit)) ⌝ }
 {
-    let numbers = [r.start, r.end, r.outcome.answer as usize, r.outcome.detail];
-    text::put_row(room, 0, &numbers)
+    let numbers = [
+        r.start,
+        r.end,
+        r.outcome.answer as usize,
+        r.outcome.detail,
+        answers::as_number(r.outcome.value),
+    ];
+    listing::put_line(room, 0, numbers)
 }
 
 // The line of the bytes that come with a record.
 fn put_record(r: Reading, room: &mut [u8]) -> usize
-    ensures { λ n. ⌜ Puts (ascii "record " ++ row (four (r .bytes))) (now (room .entry)) 0 (now (room .exit)) n ⌝ }
+    ensures { λ n. ⌜ Puts (recordLine (four (r .bytes))) (now (room .entry)) 0 (now (room .exit)) n ⌝ }
     ensures { λ n. ⌜ Counts n (now (room .exit)) ⌝ }
 {
     let bytes = r.bytes;
-    let numbers = [
-        bytes[0] as usize,
-        bytes[1] as usize,
-        bytes[2] as usize,
-        bytes[3] as usize,
-    ];
-    let end = text::put(room, 0, b"record ");
-    text::put_row(room, end, &numbers)
+    let numbers = [bytes[0] as usize, bytes[1] as usize, bytes[2] as usize];
+    let last = bytes[3] as usize;
+    let word = text::put(room, 0, b"record ");
+    let end = text::put_spaced(room, word, &numbers);
+    text::put_number(room, end, last, b'\n')
 }
 
 // The record of the message at a place.

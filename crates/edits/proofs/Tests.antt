@@ -8,12 +8,12 @@ use native.Mathlib.Omega.{arith}
 use lib.Dec.{ltb}
 use lib.ListN.{set}
 use borrow.Author.Tests.{ltb-false}
-use Rattle.answers.specs.Table.{Row, row, rowAt, done, first, outcome}
+use Rattle.answers.specs.Table.{Row, row, rowFound, done, first, outcome}
 use Rattle.answers.specs.Effect.{changed}
-use Rattle.answers.proofs.Rows.{Refusals, row-silent, row-at-silent}
+use Rattle.answers.proofs.Rows.{Refusals, row-silent, row-at-silent, row-found-silent}
 use Rattle.answers.specs.promises.Decides.{Silent}
 use Rattle.ranges.specs.Ranges.{outFrom}
-use Rattle.ranges.proofs.Runs.{further, out-further}
+use Rattle.ranges.proofs.Runs.{one-in, further, out-further}
 use Rattle.fields.specs.Fields.{fields, inRange, placeOf}
 use Rattle.patch.specs.Patch.{halfUsed, patchRows}
 use Rattle.fields.specs.code.Columns.{busTable}
@@ -27,7 +27,7 @@ unfolding editRows valueRows
 rows-at n v k e = rw e
 
 -- Where it has none, the first of them is 8.
-pub rows-nowhere : (n v : ℕ) → placeOf n ≡ none → editRows n v ≡ row 8 true ∷ rowAt 11 none ∷ []
+pub rows-nowhere : (n v : ℕ) → placeOf n ≡ none → editRows n v ≡ row 8 true ∷ rowFound 11 none ∷ []
 unfolding editRows
 rows-nowhere n v e = rw e
 
@@ -49,7 +49,7 @@ applying-nowhere n v p e =
 pub bus-out : (b s a d : ℕ) → b ≤ 9 → outFrom fields (104 + 3 * b) (s ∷ a ∷ d ∷ []) ≡ further (104 + 3 * b) (outFrom busTable 0 (s ∷ a ∷ d ∷ []))
 bus-out b s a d h =
     let here : 104 + 3 * b + 0 ≡ 104 + 3 * b = omega arith in
-    rw here at (out-further fields busTable (104 + 3 * b) 0 (s ∷ a ∷ d ∷ []) (λ i x l. bus-rows b h i x (omega arith)))
+    rw here at (out-further fields busTable (104 + 3 * b) 0 (s ∷ a ∷ d ∷ []) (λ i l. bus-rows b h i (omega arith)))
 
 -- The rows of an edit are refusals: of a value at its place, of a remote edit, of a matrix modulation edit.
 pub value-refusals : (k n v : ℕ) → Refusals (valueRows k n v)
@@ -69,17 +69,10 @@ pub value-small : (k n v : ℕ) → Silent (valueRows k n v) → v ≤ 127
 unfolding valueRows
 value-small k n v a = ltb-false 127 v (row-silent 8 (ltb 127 v) (a .0))
 
-accepted : (k b : ℕ) → outAt (some k) b ≡ none → inRange k b ≡ true
-accepted k b e = go (inRange k b) refl e
-  where
-    go : (t : Bool) → inRange k b ≡ t → cond t none (some k) ≡ none → inRange k b ≡ true
-    go true q e = q
-    go false q e = let z : _≡_ {A = ℕ} 0 1 = cc in absurd (omega arith)
-
 -- And what is stored of it lies in the field's range.
 pub value-inside : (k n v : ℕ) → Silent (valueRows k n v) → inRange k (storedFor n v) ≡ true
 unfolding valueRows
-value-inside k n v a = accepted k (storedFor n v) (row-at-silent 11 (outAt (some k) (storedFor n v)) (a .1 .0))
+value-inside k n v a = one-in fields k (storedFor n v) [] (row-found-silent 11 (outAt (some k) (storedFor n v)) (a .1 .0)) .0
 
 -- Neither of two tests holds where one of them would be enough.
 pub neither : (s t : Bool) → (s || t) ≡ false → (s ≡ false) × (t ≡ false)
@@ -99,7 +92,7 @@ bus-amount b s a d q = ltb-false 127 a (neither (ltb 9 b) (ltb 127 a) (row-silen
 -- No byte of its bus is out of range.
 pub bus-bytes : (b s a d : ℕ) → Silent (busRows b s a d) → outFrom fields (104 + 3 * b) (s ∷ extended a ∷ d ∷ []) ≡ none
 unfolding busRows
-bus-bytes b s a d q = row-at-silent 11 (outFrom fields (104 + 3 * b) (s ∷ extended a ∷ d ∷ [])) (q .1 .0)
+bus-bytes b s a d q = row-found-silent 11 (outFrom fields (104 + 3 * b) (s ∷ extended a ∷ d ∷ [])) (q .1 .0)
 
 -- Its bus is not half used.
 pub bus-whole : (b s a d : ℕ) → Silent (busRows b s a d) → halfUsed s d ≡ false

@@ -1,15 +1,15 @@
 -- The two edits: their tests, which reading, writing and applying share, and what they change.
-use mathlib.Core.Bool.{Bool, true, false, cond, _||_}
+use mathlib.Core.Bool.{cond, _||_}
 use mathlib.Core.List.{List, [], _∷_, _++_}
 use mathlib.Core.Option.{Option, none, some}
 use Prim.Native.Nat.{ℕ, _+_}
 use lib.Dec.{eqb, ltb}
 use lib.ListN.{set}
 use Rattle.answers.specs.declared.Outcome.{Outcome}
-use Rattle.answers.specs.Table.{Row, row, rowAt, done, first}
+use Rattle.answers.specs.Table.{Row, row, rowAt, rowFound, Found, done, first}
 use Rattle.answers.specs.Effect.{Effect, changed}
 use Rattle.ranges.specs.Ranges.{outFrom}
-use Rattle.fields.specs.Fields.{fields, inRange, placeOf}
+use Rattle.fields.specs.Fields.{fields, placeOf, missing}
 use Rattle.patch.specs.Patch.{sourceAt, amountAt, destinationAt, halfUsed, patchRows}
 
 -- From seven bits to eight: bit 6 is copied into bit 7.
@@ -20,25 +20,21 @@ extended v = cond (ltb v 64) v (v + 128)
 unfoldable pub storedFor : ℕ → ℕ → ℕ
 storedFor parameter v = cond (eqb parameter 21) v (extended v)
 
-abbrev pub missing : Option ℕ → Bool
-missing none = true
-missing (some k) = false
-
--- The place k, where a byte does not lie in its range.
-abbrev pub outAt : Option ℕ → ℕ → Option ℕ
+-- The place k and the value of a byte there, where the byte does not lie in its range.
+abbrev pub outAt : Option ℕ → ℕ → Option Found
 outAt none b = none
-outAt (some k) b = cond (inRange k b) none (some k)
+outAt (some k) b = outFrom fields k (b ∷ [])
 
--- The tests of a 06H edit: 8, then 11.
+-- The tests of a 06H edit: 8, then 11 with the value that it would store.
 unfoldable pub editRows : ℕ → ℕ → List Row
 editRows parameter v =
     row 8 (missing (placeOf parameter) || ltb 127 v) ∷
-    rowAt 11 (outAt (placeOf parameter) (storedFor parameter v)) ∷ []
+    rowFound 11 (outAt (placeOf parameter) (storedFor parameter v)) ∷ []
 
 -- The tests of the three bytes of a bus, the amount as stored: 11, then 12.
 abbrev pub byteRows : ℕ → ℕ → ℕ → ℕ → List Row
 byteRows bus source amount destination =
-    rowAt 11 (outFrom fields (sourceAt bus) (source ∷ amount ∷ destination ∷ [])) ∷
+    rowFound 11 (outFrom fields (sourceAt bus) (source ∷ amount ∷ destination ∷ [])) ∷
     rowAt 12 (cond (halfUsed source destination) (some bus) none) ∷ []
 
 -- The tests of a 0BH edit: 8, 11, 12. 14 is withdrawn.

@@ -2,7 +2,6 @@
 use answers::DONE;
 use answers::HALF_USED;
 use answers::NOT_ALLOWED;
-use answers::OUT_OF_RANGE;
 use answers::Outcome;
 use fields::AMOUNT_AT;
 use fields::BUS;
@@ -13,7 +12,6 @@ use fields::FoundPlace;
 use fields::NOT_EXTENDED;
 use fields::Parameter;
 use fields::SOURCE_AT;
-use ranges::Failed;
 ghost use mathlib.Core.Path.{_≡_};
 ghost use Prim.Native.Nat.{_≤_};
 ghost use Rattle.answers.specs.Effect.{Gives, tested};
@@ -44,7 +42,7 @@ fn stored_for(parameter: Parameter, v: u8) -> u8
     extend(v)
 }
 
-// The value of a remote edit at its parameter's place: 8, then 11.
+// The value of a remote edit at its parameter's place: 8, then 11 with the place and the value that it would store.
 fn test_value(place: BytePlace, parameter: Parameter, value: u8) -> Outcome
     ensures { λ r. ⌜ r ≡ tested (valueRows (place .0) (parameter .0) value) ⌝ }
 {
@@ -52,13 +50,14 @@ fn test_value(place: BytePlace, parameter: Parameter, value: u8) -> Outcome
         return answers::refused(NOT_ALLOWED, 0);
     }
     let k = place.0 as usize;
-    if !fields::in_range(place, stored_for(parameter, value)) {
-        return answers::refused(OUT_OF_RANGE, k);
+    let stored = stored_for(parameter, value);
+    if !fields::in_range(place, stored) {
+        return answers::out_of_range(k, fields::value_at(place, stored));
     }
     answers::done(0)
 }
 
-// The tests of a remote edit: 8, then 11 with its field's place.
+// The tests of a remote edit: 8, then 11 with its field's place and the value that it would store.
 pub fn test_edit(parameter: Parameter, value: u8) -> Outcome
     ensures { λ r. ⌜ r ≡ tested (editRows (parameter .0) value) ⌝ }
 {
@@ -69,7 +68,8 @@ pub fn test_edit(parameter: Parameter, value: u8) -> Outcome
     }
 }
 
-// The three bytes of a bus, the amount as it is stored: 11 with the lowest place, then 12 with the bus. Every bus has the same ranges.
+// The three bytes of a bus, the amount as it is stored: 11 with the lowest place and the value that it would store, then 12 with the
+// bus. Every bus has the same ranges.
 // Its caller has tested the bus.
 fn test_bytes(bus: u8, source: u8, amount: u8, destination: u8) -> Outcome
     requires { ⌜ bus ≤ 9 ⌝ }
@@ -77,8 +77,8 @@ fn test_bytes(bus: u8, source: u8, amount: u8, destination: u8) -> Outcome
 {
     let b = bus as usize;
     let out = ranges::first_out(&BUS, &[source, amount, destination]);
-    if let Failed::At(j) = out {
-        return answers::refused(OUT_OF_RANGE, SOURCE_AT + 3 * b + j);
+    if out.answer != DONE {
+        return answers::out_of_range(SOURCE_AT + 3 * b + out.detail, out.value);
     }
     if patch::half_used(source, destination) {
         return answers::refused(HALF_USED, b);
@@ -86,7 +86,7 @@ fn test_bytes(bus: u8, source: u8, amount: u8, destination: u8) -> Outcome
     answers::done(0)
 }
 
-// The tests of a matrix modulation edit: 8, then 11 with the lowest of its places, then 12 with its bus.
+// The tests of a matrix modulation edit: 8, then 11 with the lowest of its places and the value that it would store, then 12 with its bus.
 pub fn test_bus_edit(bus: u8, source: u8, amount: u8, destination: u8) -> Outcome
     ensures { λ r. ⌜ r ≡ tested (busRows bus source amount destination) ⌝ }
 {

@@ -1,10 +1,12 @@
-// The library for C and Rust to link: walk, read, reports, test, lookups, names, both edits, all writers and the bank, each the routine
+// The library for C and Rust to link: walk, read, reports, test, lookups, ranges and values of parameters, names, both edits, all writers and the bank, each the routine
 // itself with its own contract. A slice passes as a pointer and a length; a struct is returned by value, laid out as C lays it out.
 use answers::Outcome;
 use fields::BytePlace;
 use fields::FoundParameter;
 use fields::FoundPlace;
 use fields::Parameter;
+use fields::Range;
+use patch::Held;
 use reading::listing::Listed;
 use reading::recording::Reading;
 use reading::walking::Report;
@@ -17,8 +19,9 @@ ghost use Rattle.messages.specs.declared.kinds.Kind.the-variants.{Dump as ofDum
 ghost use Rattle.messages.specs.Kinds.{singlePatch, masterParameters, editBuffer, remoteEdit, busEdit};
 ghost use Rattle.fields.specs.code.Columns.{orNone};
 ghost use Rattle.fields.specs.Fields.{placeOf, parameterOf};
+ghost use Rattle.fields.specs.Parameters.{ranging};
 ghost use Rattle.names.specs.Names.{naming, showing};
-ghost use Rattle.patch.specs.Patch.{patchRows};
+ghost use Rattle.patch.specs.Patch.{patchRows, holding};
 ghost use Rattle.reading.specs.code.Rooms.{Makes};
 ghost use Rattle.reading.specs.code.Told.{walked, reads};
 ghost use Rattle.writing.specs.Writing.{writing, writingBank};
@@ -59,6 +62,7 @@ pub extern "C" fn matrix_test_patch(p: &[u8]) -> Outcome
     let tested = patch::test(p);
     Outcome {
         answer: tested.answer,
+        value: tested.value,
         detail: tested.detail,
     }
 }
@@ -85,6 +89,22 @@ pub extern "C" fn matrix_parameter_of(place: u8) -> u8
     }
 }
 
+// The least and the greatest value of a parameter.
+#[no_mangle]
+pub extern "C" fn matrix_range_of(parameter: u8) -> Range
+    ensures { λ r. ⌜ r ≡ ranging parameter ⌝ }
+{
+    fields::range_of(Parameter(parameter))
+}
+
+// The value of a parameter in a patch.
+#[no_mangle]
+pub extern "C" fn matrix_value_of(p: &[u8], parameter: u8) -> Held
+    ensures { λ r. ⌜ r ≡ holding parameter (now (p .entry)) ⌝ }
+{
+    patch::value_of(p, Parameter(parameter))
+}
+
 // Sets the name of a patch.
 #[no_mangle]
 pub extern "C" fn matrix_set_name(p: &mut [u8], text: &[u8]) -> Outcome
@@ -109,6 +129,7 @@ pub extern "C" fn matrix_apply_edit(p: &mut [u8], parameter: u8, value: u8) -> O
     let edited = edits::apply_edit(p, Parameter(parameter), value);
     Outcome {
         answer: edited.answer,
+        value: edited.value,
         detail: edited.detail,
     }
 }
@@ -127,6 +148,7 @@ pub extern "C" fn matrix_apply_bus_edit(
     let edited = edits::apply_bus_edit(p, bus, source, amount, destination);
     Outcome {
         answer: edited.answer,
+        value: edited.value,
         detail: edited.detail,
     }
 }

@@ -4,7 +4,7 @@ use mathlib.Core.Bool.{Bool, true, _&&_}
 use Prim.Native.Nat.{ℕ, zero, suc, _+_, _*_, _≤_, _<_}
 use native.Mathlib.Omega.{arith}
 use lib.Dec.{T, eqb, leb, ltb, eqb→eq, leb→le, ltb→lt}
-use Rattle.ranges.specs.Ranges.{inRow}
+use Rattle.ranges.specs.Ranges.{leastIn, greatestIn, inRow}
 use Rattle.ranges.proofs.Below.{parts, each, at}
 use Rattle.ranges.proofs.Between.{Lies, plain, positive, negative, lies}
 use Rattle.fields.specs.Fields.{fields, leastAt, greatestAt, inRange}
@@ -21,25 +21,33 @@ all-buses : T (each bus-alike 10)
 unfolding fields
 all-buses = tt
 
--- Byte j of bus b has the range of byte j of bus 0.
-pub bus-range : (b j x : ℕ) → b ≤ 9 → j < 3 → inRange (104 + 3 * b + j) x ≡ inRange (104 + j) x
-unfolding inRow
-bus-range b j x h l =
+-- Byte j of bus b has the bounds of byte j of bus 0.
+bus-bounds : (b j : ℕ) → b ≤ 9 → j < 3 → (leastAt (104 + 3 * b + j) ≡ leastAt (104 + j)) × (greatestAt (104 + 3 * b + j) ≡ greatestAt (104 + j))
+bus-bounds b j h l =
     let k = 104 + 3 * b + j in
     let t = at (λ j. alike (104 + 3 * b + j) (104 + j)) 3 (at bus-alike 10 all-buses b (omega arith)) j l in
     let q = parts (eqb (leastAt k) (leastAt (104 + j))) (eqb (greatestAt k) (greatestAt (104 + j))) t in
-    rw (eqb→eq (leastAt k) (leastAt (104 + j)) (q .0), eqb→eq (greatestAt k) (greatestAt (104 + j)) (q .1))
+    (eqb→eq (leastAt k) (leastAt (104 + j)) (q .0), eqb→eq (greatestAt k) (greatestAt (104 + j)) (q .1))
+
+-- So it has its range.
+pub bus-range : (b j x : ℕ) → b ≤ 9 → j < 3 → inRange (104 + 3 * b + j) x ≡ inRange (104 + j) x
+unfolding inRow
+bus-range b j x h l = let q = bus-bounds b j h l in rw (q .0, q .1)
 
 -- The same of the rows of bus 0 alone.
-row-of : (j x : ℕ) → j < 3 → inRow busTable j x ≡ inRange (104 + j) x
-unfolding fields inRow
-row-of zero x l = refl
-row-of (suc zero) x l = refl
-row-of (suc (suc zero)) x l = refl
-row-of (suc (suc (suc j))) x l = absurd (omega arith)
+row-of : (j : ℕ) → j < 3 → (leastIn busTable j ≡ leastAt (104 + j)) × (greatestIn busTable j ≡ greatestAt (104 + j))
+unfolding fields
+row-of zero l = (refl, refl)
+row-of (suc zero) l = (refl, refl)
+row-of (suc (suc zero)) l = (refl, refl)
+row-of (suc (suc (suc j))) l = absurd (omega arith)
 
-pub bus-rows : (b : ℕ) → b ≤ 9 → (j x : ℕ) → j < 3 → inRow busTable j x ≡ inRange (104 + 3 * b + j) x
-bus-rows b h j x l = row-of j x l ∙ sym (bus-range b j x h l)
+pub bus-rows : (b : ℕ) → b ≤ 9 → (j : ℕ) → j < 3
+    → (leastIn busTable j ≡ leastAt (104 + 3 * b + j)) × (greatestIn busTable j ≡ greatestAt (104 + 3 * b + j))
+bus-rows b h j l =
+    let q = bus-bounds b j h l in
+    let r = row-of j l in
+    (r .0 ∙ sym (q .0), r .1 ∙ sym (q .1))
 
 below : (k x : ℕ) → T (leb (leastAt k) (greatestAt k) && ltb (greatestAt k) 128) → inRange k x ≡ true → x < 128
 unfolding inRow

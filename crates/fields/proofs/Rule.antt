@@ -1,5 +1,5 @@
 -- The rule of the table holds: its parts, each shown by one test over the whole.
-use Rattle.ranges.specs.Values.{valueOf, valueIn}
+use Rattle.ranges.specs.Values.{valueOf, valueBy}
 use Rattle.ranges.proofs.Tables.{each-goes}
 use Rattle.fields.specs.Fields.{fields}
 use Rattle.fields.specs.promises.Rule.{Rule}
@@ -9,7 +9,7 @@ use Rattle.fields.proofs.Places.{place-past}
 use Rattle.fields.proofs.Signs.{amount-goes, detune-goes, name-goes}
 
 pub rule : Rule
-unfolding fields valueOf valueIn
+unfolding fields valueOf valueBy
 rule = record {
   rows = rows;
   of-tables = fields-rule;

@@ -1,15 +1,17 @@
 -- A field's range as its least value and its width, the greatest minus the least modulo 256: a byte lies in the range exactly when, less
 -- the least modulo 256, it is at most the width.
 use mathlib.Core.Path.{_≡_, refl}
+use mathlib.Core.Bool.{Bool, true, false}
 use mathlib.Core.List.{List, [], _∷_}
 use Prim.Native.Nat.{ℕ, zero, suc, _+_, _-_, _/_, _%_, _≤_, _<_}
 use native.Mathlib.Nat.{le-of-suc-le-suc}
 use native.Mathlib.Omega.{arith}
-use lib.Dec.{leb}
+use lib.Dec.{leb, ltb}
 use lib.ListN.{getD}
-use Rattle.ranges.specs.Ranges.{inRow}
+use borrow.Author.Tests.{ltb-true, ltb-false, lt-ltb, le-ltb}
+use Rattle.ranges.specs.Ranges.{inRow, signedIn}
 use Rattle.ranges.proofs.Between.{between-width}
-use Rattle.fields.specs.Fields.{leastAt, greatestAt, inRange}
+use Rattle.fields.specs.Fields.{fields, leastAt, greatestAt, inRange}
 use Rattle.fields.specs.code.Columns.{widthAt, rangeAt}
 use Rattle.fields.proofs.Rules.{past, fields-rule}
 
@@ -52,6 +54,32 @@ in-range-number k b r n hb hr en e =
     let low : n % 256 ≡ leastAt k = omega arith in
     let high : n / 256 ≡ widthAt k = omega arith in
     rw high (in-range-width k b r hb hr (rw low at e))
+
+-- A field is signed where its least value and its width together pass 255: its range goes on from there to 0.
+pub signed-number : (k n : ℕ) → n ≡ rangeAt k → ltb 255 (n % 256 + n / 256) ≡ signedIn fields k
+signed-number k n en =
+    let bounds = fields-rule .bytes k in
+    let low : n % 256 ≡ leastAt k = omega arith in
+    let high : n / 256 ≡ widthAt k = omega arith in
+    rw (low, high) (go (ltb (greatestAt k) (leastAt k)) refl)
+  where
+    go : (t : Bool) → ltb (greatestAt k) (leastAt k) ≡ t → ltb 255 (leastAt k + widthAt k) ≡ t
+    go true q =
+        let bounds = fields-rule .bytes k in
+        let h : greatestAt k < leastAt k = ltb-true _ _ q in
+        lt-ltb 255 (leastAt k + widthAt k) (omega arith)
+    go false q =
+        let bounds = fields-rule .bytes k in
+        let h : leastAt k ≤ greatestAt k = ltb-false _ _ q in
+        le-ltb 255 (leastAt k + widthAt k) (omega arith)
+
+-- Both parts together, less 256 where they pass it, are its greatest value.
+pub greatest-number : (k n : ℕ) → n ≡ rangeAt k → (n % 256 ≡ leastAt k) × ((n % 256 + n / 256) % 256 ≡ greatestAt k)
+greatest-number k n en =
+    let bounds = fields-rule .bytes k in
+    let low : n % 256 ≡ leastAt k = omega arith in
+    let high : n / 256 ≡ widthAt k = omega arith in
+    (low, rw (low, high) (omega arith))
 
 -- Its upper part is a byte.
 pub number-high : (k n : ℕ) → n ≡ rangeAt k → n / 256 < 256

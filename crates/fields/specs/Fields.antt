@@ -1,11 +1,11 @@
 -- The 134 bytes of a patch: place, parameter, least and greatest value of each, document 01's listing in full.
-use mathlib.Core.Bool.{Bool, cond, _||_}
+use mathlib.Core.Bool.{Bool, true, false, cond, _||_}
 use mathlib.Core.List.{[], _∷_}
 use mathlib.Core.Option.{Option, none, some}
 use Prim.Native.Nat.{ℕ, zero, suc, _+_}
 use lib.Dec.{eqb, leb, ltb}
-use Rattle.ranges.specs.Ranges.{Table, field, placeIn, parameterIn, leastIn, greatestIn, inRow}
-use Rattle.ranges.specs.Values.{Value, valueIn}
+use lib.IntN.{ℤ}
+use Rattle.ranges.specs.Ranges.{Table, field, placeIn, parameterIn, leastIn, greatestIn, inRow, valueIn}
 
 -- How many bytes a patch has.
 abbrev pub size : ℕ
@@ -76,8 +76,8 @@ greatestAt k = greatestIn fields k
 abbrev pub inRange : ℕ → ℕ → Bool
 inRange place b = inRow fields place b
 
--- The value of a byte at a place.
-abbrev pub valueAt : ℕ → ℕ → Value
+-- The value of a byte at a place, with its sign where the field has one.
+abbrev pub valueAt : ℕ → ℕ → ℤ
 valueAt place b = valueIn fields place b
 
 -- The first of the m rows from row k on whose parameter is n: its place.
@@ -92,3 +92,8 @@ placeOf n = cond (ltb 99 n) none (searchFrom size 0 n)
 -- The parameter of a place.
 unfoldable pub parameterOf : ℕ → Option ℕ
 parameterOf k = cond (leb size k || eqb (parameterAt k) 255) none (some (parameterAt k))
+
+-- A number that is no parameter's has no place.
+abbrev pub missing : Option ℕ → Bool
+missing none = true
+missing (some k) = false

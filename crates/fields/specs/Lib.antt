@@ -1,3 +1,4 @@
 pub mod Fields
+pub mod Parameters
 pub mod promises
 pub mod code

@@ -12,12 +12,15 @@ use crate::rows::R26;
 use crate::rows::R104;
 use crate::rows::R105;
 use crate::rows::R106;
+use answers::NOT_ALLOWED;
+use answers::Outcome;
 ghost use mathlib.Core.Path.{_≡_};
 ghost use mathlib.Core.List.{[]};
 ghost use Prim.Native.Nat.{_<_};
 ghost use lib.ListN.{getD};
-ghost use Rattle.fields.specs.Fields.{fields, leastAt, greatestAt, inRange, placeOf, parameterOf};
-ghost use Rattle.fields.specs.code.Columns.{foundPlace, foundParameter};
+ghost use Rattle.fields.specs.Fields.{fields, leastAt, greatestAt, inRange, valueAt, placeOf, parameterOf};
+ghost use Rattle.fields.specs.Parameters.{ranging};
+ghost use Rattle.fields.specs.code.Columns.{rangeAt, foundPlace, foundParameter};
 
 // A row: a byte place, its parameter number, its least and its greatest value. Values are bytes as stored: a least value above the
 // greatest is that of a signed field, 0xC0 for -64, 0xE0 for -32.
@@ -118,11 +121,55 @@ pub fn parameter_of(place: BytePlace) -> FoundParameter
     FoundParameter::Of(Parameter(n as u8))
 }
 
+// The range of a place in one number, least + 256 * width; 0 past the table.
+fn range_at(place: BytePlace) -> u64
+    ensures { λ r. ⌜ r ≡ rangeAt (place .0) ⌝ }
+{
+    let k = place.0 as usize;
+    (four_ranges(k / 4) >> (16 * (k % 4))) % 65536
+}
+
 // A byte lies in the range of its field. Past the table both bounds are 0.
 pub fn in_range(place: BytePlace, b: u8) -> bool
     ensures { λ r. ⌜ r ≡ inRange (place .0) b ⌝ }
 {
-    let k = place.0 as usize;
-    let range = (four_ranges(k / 4) >> (16 * (k % 4))) % 65536;
+    let range = range_at(place);
     std::num::wrapping_sub_u8(b, (range % 256) as u8) <= (range / 256) as u8
+}
+
+// The value of a byte at a place. The range of a signed field goes on from 255 to 0.
+pub fn value_at(place: BytePlace, b: u8) -> i16
+    ensures { λ r. ⌜ r ≡ valueAt (place .0) b ⌝ }
+{
+    let range = range_at(place);
+    ranges::value_by(255 < range % 256 + range / 256, b)
+}
+
+// What is told of a parameter's range: an outcome, and the least and greatest value; both 0 when refused.
+#[repr(C)]
+pub struct Range {
+    pub outcome: Outcome,
+    pub least: i16,
+    pub greatest: i16,
+}
+
+// The least and the greatest value of a parameter, with their signs: 8 for a number that is no parameter's.
+pub fn range_of(parameter: Parameter) -> Range
+    ensures { λ r. ⌜ r ≡ ranging (parameter .0) ⌝ }
+{
+    let FoundPlace::At(place) = place_of(parameter) else {
+        return Range {
+            outcome: answers::refused(NOT_ALLOWED, 0),
+            least: 0,
+            greatest: 0,
+        };
+    };
+    let range = range_at(place);
+    let least = (range % 256) as u8;
+    let greatest = ((range % 256 + range / 256) % 256) as u8;
+    Range {
+        outcome: answers::done(0),
+        least: value_at(place, least),
+        greatest: value_at(place, greatest),
+    }
 }

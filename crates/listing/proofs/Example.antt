@@ -1,9 +1,9 @@
 -- It is computed.
 use mathlib.Core.Path.{refl}
-use Rattle.text.specs.Text.{ascii, digitsOf, row}
+use Rattle.text.specs.Text.{ascii, digitsOf, spaced}
 use Rattle.streams.specs.Bytes.{body, withoutRealTime, byteKind}
 use Rattle.streams.specs.Stream.{reports, walk, firstFrom, messageAt}
-use Rattle.ranges.specs.Ranges.{inRow, between}
+use Rattle.ranges.specs.Ranges.{inRow, between, outFrom}
 use Rattle.fields.specs.Fields.{fields, placeOf, searchFrom}
 use Rattle.edits.specs.Edits.{editRows, storedFor, extended}
 use Rattle.messages.specs.Kinds.{kindOf}
@@ -12,6 +12,6 @@ use Rattle.listing.specs.Listing.{header, lines, total, listingOf}
 use Rattle.listing.specs.promises.Example.{Example}
 
 pub example : Example
-unfolding listingOf header lines total ascii digitsOf row reports walk firstFrom messageAt body withoutRealTime byteKind judge kindOf editRows placeOf
-    searchFrom fields storedFor extended inRow between
+unfolding listingOf header lines total ascii digitsOf spaced reports walk firstFrom messageAt body withoutRealTime byteKind judge kindOf editRows placeOf
+    searchFrom fields storedFor extended inRow between outFrom
 example = refl

@@ -4,36 +4,56 @@ use mathlib.Core.List.{List, [], _∷_, _++_, append-assoc}
 use Prim.Native.Nat.{ℕ, suc, _+_, _*_, _-_, _<_, _≤_}
 use native.Mathlib.Nat.{add-zero}
 use native.Mathlib.Omega.{arith}
-use lib.ListN.{length, take, drop, length-append}
-use lib.Seq.{drop-drop}
-use Rattle.text.specs.Text.{ascii, row, followed}
-use Rattle.text.proofs.Rows.{followed-most, row-most}
+use lib.ListN.{length, take, drop, getD, length-append}
+use lib.Seq.{drop-cons, drop-drop}
+use Rattle.answers.specs.Lists.{All}
+use Rattle.text.specs.Text.{ascii, followed, signed, spaced}
+use Rattle.text.proofs.Spaced.{followed-most, signed-most, spaced-most}
 use Rattle.streams.specs.Stream.{Report}
-use Rattle.reading.specs.code.Rooms.{width, numbersOf, flat}
-use Rattle.listing.specs.Listing.{lines, total}
+use Rattle.reading.specs.code.Rooms.{width, outcomeIn, flat, Tells}
+use Rattle.listing.specs.Listing.{line, lines, total}
 use Rattle.listing.specs.code.Pieces.{leftBehind, leastRoom}
-use Rattle.listing.specs.code.Steps.{rows}
+use Rattle.listing.specs.code.Steps.{lineOf, linesOf}
 
--- The rows of the numbers of reports are their lines.
-pub rows-flat : (rs : List Report) (more : List ℕ) → rows width (length rs) (flat rs ++ more) ≡ lines rs
-unfolding rows flat lines
-rows-flat [] more = refl
-rows-flat (r ∷ rs) more = ap (λ (l : List ℕ). row (numbersOf r) ++ l) (rows-flat rs more)
+-- The lines of the numbers of reports whose values they tell are the reports' lines.
+pub lines-flat : (rs : List Report) (more : List ℕ) → All Tells rs → linesOf (length rs) (flat rs ++ more) ≡ lines rs
+unfolding linesOf flat lines
+lines-flat [] more t = refl
+lines-flat (r ∷ rs) more t = rw (t .0, lines-flat rs more (t .1))
 
--- What is left of n rows from the row i on: that row, and those behind it.
-pub rows-next : (numbers : List ℕ) (n i : ℕ) → i < n
-    → rows width (n - i) (drop (width * i) numbers) ≡ row (take width (drop (width * i) numbers)) ++ rows width (n - (i + 1)) (drop (width * (i + 1)) numbers)
-unfolding rows
-rows-next numbers n i h =
+-- The line of the numbers from an index on is that of the five there.
+pub line-at : (ns : List ℕ) (k : ℕ) → k + width ≤ length ns
+    → lineOf (getD ns k 0 ∷ getD ns (k + 1) 0 ∷ getD ns (k + 2) 0 ∷ getD ns (k + 3) 0 ∷ getD ns (k + 4) 0 ∷ []) ≡ lineOf (drop k ns)
+line-at ns k h =
+    let e₁ : k + 1 ≡ suc k = omega arith in
+    let e₂ : k + 2 ≡ suc (suc k) = omega arith in
+    let e₃ : k + 3 ≡ suc (suc (suc k)) = omega arith in
+    let e₄ : k + 4 ≡ suc (suc (suc (suc k))) = omega arith in
+    let d₁ = drop-cons ns (suc k) 0 (omega arith) in
+    let d₂ = drop-cons ns (suc (suc k)) 0 (omega arith) in
+    let d₃ = drop-cons ns (suc (suc (suc k))) 0 (omega arith) in
+    let d₄ = drop-cons ns (suc (suc (suc (suc k)))) 0 (omega arith) in
+    rw (e₁, e₂, e₃, e₄, drop-cons ns k 0 (omega arith), d₁, d₂, d₃, d₄)
+
+-- What is left of n lines from the line i on: that line, and those behind it.
+pub lines-next : (numbers : List ℕ) (n i : ℕ) → i < n
+    → linesOf (n - i) (drop (width * i) numbers) ≡ lineOf (drop (width * i) numbers) ++ linesOf (n - (i + 1)) (drop (width * (i + 1)) numbers)
+unfolding linesOf
+lines-next numbers n i h =
     let one : n - i ≡ suc (n - (i + 1)) = omega arith in
     let further : width * i + width ≡ width * (i + 1) = omega arith in
     rw (one, drop-drop width (width * i) numbers, further)
 
--- A line has at most 21 bytes for each number.
-pub lines-most : (rs : List Report) → length (lines rs) ≤ width * 21 * length rs
+-- A line has at most 21 bytes for each number, and a sign.
+pub lines-most : (rs : List Report) → length (lines rs) ≤ (width * 21 + 1) * length rs
 unfolding lines
 lines-most [] = omega arith
-lines-most (r ∷ rs) = let l = row-most (numbersOf r) in let i = lines-most rs in simp length-append (omega arith)
+lines-most (r ∷ rs) =
+    let o = outcomeIn r in
+    let l = spaced-most (r .start ∷ r .end ∷ o .answer ∷ o .detail ∷ []) in
+    let v = signed-most (o .value) 0x0A in
+    let i = lines-most rs in
+    simp length-append (omega arith)
 
 pub total-most : (n : ℕ) → length (total n) ≤ leastRoom
 unfolding total ascii
@@ -42,7 +62,7 @@ total-most n = let l = followed-most n 0x0A in rw (length-append (ascii "message
 lines-append : (a b : List Report) → lines (a ++ b) ≡ lines a ++ lines b
 unfolding lines
 lines-append [] b = refl
-lines-append (r ∷ a) b = ap (λ (l : List ℕ). row (numbersOf r) ++ l) (lines-append a b) ∙ simp append-assoc
+lines-append (r ∷ a) b = ap (λ (l : List ℕ). line (r .start) (r .end) (outcomeIn r) ++ l) (lines-append a b) ∙ simp append-assoc
 
 -- What is left behind n lines is the lines of the first reports, and what is left behind those.
 pub left-more : (n : ℕ) (a b : List Report) → leftBehind n (a ++ b) ≡ lines a ++ leftBehind (n + length a) b

@@ -18,11 +18,11 @@ use Rattle.reading.specs.declared.listing.Listed.{Listed}
 use Rattle.reading.proofs.Resume.{resume, Goes, goes}
 use Rattle.listing.specs.Listing.{most, header, lines, total, tooLong, listingOf}
 use Rattle.listing.specs.code.Pieces.{reportsAt, leftBehind, leftOf, callsLeft, leastRoom, GivesPiece}
-use Rattle.listing.specs.code.Steps.{Within, rows, Adds}
+use Rattle.listing.specs.code.Steps.{Within, linesOf, Adds}
 use Rattle.listing.specs.declared.Left.{Left}
 use Rattle.listing.specs.declared.Left.the-variants.{Whole, From, Nothing}
 use Rattle.listing.specs.declared.Piece.{Piece}
-use Rattle.listing.proofs.Lines.{rows-flat, lines-most, left-more, left-total}
+use Rattle.listing.proofs.Lines.{lines-flat, lines-most, left-more, left-total}
 
 -- A state of the input: what is left is what is left behind its lines.
 pub left-within : (s : List ℕ) (place messages : ℕ) → Within s place messages → leftOf s (From place messages) ≡ leftBehind messages (reportsAt s place)
@@ -64,8 +64,10 @@ module _ {s : List ℕ} {place : ℕ} (messages : ℕ) (within : Within s place 
       let none : reportsAt s place ≡ [] = no-report (reportsAt s place) (call .last h e) in
       left-within s place messages within ∙ rw none (left-total messages ∙ sym (append-nil (total messages)))
 
-  pub made-lines : rows width (r .count) new ≡ lines (made s place old)
-  made-lines = rw (m .holds .count, m .holds .numbers) (rows-flat (made s place old) (drop (width * length (made s place old)) old))
+  pub made-lines : linesOf (r .count) new ≡ lines (made s place old)
+  made-lines =
+      let some = made s place old in
+      rw (m .holds .count, m .holds .numbers) (lines-flat some (drop (width * length some) old) (m .holds .values))
 
   pub made-few : length (lines (made s place old)) ≤ leastRoom
   unfolding made

@@ -4,22 +4,27 @@ use mathlib.Core.List.{List, [], _∷_, _++_}
 use Prim.Native.Nat.{ℕ}
 use lib.Dec.{leb}
 use lib.ListN.{length}
-use Rattle.text.specs.Text.{ascii, followed, row}
+use Rattle.answers.specs.declared.Outcome.{Outcome}
+use Rattle.text.specs.Text.{ascii, followed, signed, spaced}
 use Rattle.streams.specs.Stream.{Report, reports}
 use Rattle.messages.specs.Judge.{judge}
-use Rattle.reading.specs.code.Rooms.{numbersOf}
+use Rattle.reading.specs.code.Rooms.{outcomeIn}
 
 -- Programs take at most this many bytes.
 abbrev pub most : ℕ
 most = 65536
 
 unfoldable pub header : List ℕ
-header = ascii "start end answer detail\n"
+header = ascii "start end answer detail value\n"
 
--- A line for each report: its numbers, in decimal.
+-- A line: where a message starts and ends, its answer, detail and value.
+abbrev pub line : ℕ → ℕ → Outcome → List ℕ
+line start end o = spaced (start ∷ end ∷ o .answer ∷ o .detail ∷ []) ++ signed (o .value) 0x0A
+
+-- A line for each report.
 unfoldable pub lines : List Report → List ℕ
 lines [] = []
-lines (r ∷ rs) = row (numbersOf r) ++ lines rs
+lines (r ∷ rs) = line (r .start) (r .end) (outcomeIn r) ++ lines rs
 
 -- The last line: how many messages there are.
 unfoldable pub total : ℕ → List ℕ

@@ -1,5 +1,5 @@
-// The listing of an input, made piece by piece into lent room: a header, a line for each message with its start, end, answer and detail, and
-// a line with how many messages there are; or `input too long` alone. Begin with `Left::Whole` and write each piece, until nothing is left.
+// The listing of an input, made piece by piece into lent room: a header, a line for each message with its start, end, answer, detail and
+// value, and a line with how many messages there are; or `input too long` alone. Begin with `Left::Whole` and write each piece, until nothing is left.
 use reading::listing::WIDTH;
 ghost use Prim.Native.Nat.{_*_, _≤_};
 ghost use lib.ListN.{length};
@@ -8,13 +8,13 @@ ghost use Rattle.text.specs.Text.{Puts};
 ghost use Rattle.reading.specs.code.Rooms.{width};
 ghost use Rattle.listing.specs.Listing.{total, tooLong};
 ghost use Rattle.listing.specs.code.Pieces.{GivesPiece};
-ghost use Rattle.listing.specs.code.Steps.{Within, rows, Adds};
+ghost use Rattle.listing.specs.code.Steps.{Within, lineOf, linesOf, Adds};
 
 // Programs take at most this many bytes.
 pub const MOST: usize = 65536;
 
-// A room of this many bytes or more takes the lines of 8 reports, 20 digits and the byte behind them for each number.
-pub const LEAST_ROOM: usize = reading::listing::MOST * WIDTH * 21;
+// A room of this many bytes or more takes the lines of 8 reports: 20 digits and the byte behind them for each number, and a sign.
+pub const LEAST_ROOM: usize = reading::listing::MOST * (WIDTH * 21 + 1);
 
 // What is left of a listing: the whole; what follows from a place on, behind the lines of so many messages; nothing.
 pub enum Left {
@@ -47,7 +47,7 @@ fn put_first(s: &[u8], room: &mut [u8], at: usize) -> Piece
         };
     }
     Piece {
-        len: text::put(room, at, b"start end answer detail\n"),
+        len: text::put(room, at, b"start end answer detail value\n"),
         left: Left::From(0, 0),
     }
 }
@@ -60,16 +60,31 @@ fn put_total(room: &mut [u8], at: usize, messages: usize) -> usize
     text::put_number(room, end, messages, b'\n')
 }
 
+// The line of a report: start, end, answer, detail, and the value in two's complement.
+pub fn put_line(room: &mut [u8], at: usize, numbers: [usize; WIDTH]) -> usize
+    ensures { λ r. ⌜ Puts (lineOf numbers) (now (room .entry)) at (now (room .exit)) r ⌝ }
+{
+    let end = text::put_spaced(room, at, &numbers[..WIDTH - 1]);
+    text::put_signed(room, end, numbers[WIDTH - 1], b'\n')
+}
+
 // The lines of `count` reports, whose numbers stand one behind the other.
 fn put_lines(room: &mut [u8], at: usize, numbers: &[usize], count: usize) -> usize
     requires { ⌜ width * count ≤ length (now numbers) ⌝ }
-    ensures { λ r. ⌜ Puts (rows width count (now (numbers .entry))) (now (room .entry)) at (now (room .exit)) r ⌝ }
+    ensures { λ r. ⌜ Puts (linesOf count (now (numbers .entry))) (now (room .entry)) at (now (room .exit)) r ⌝ }
 {
     let mut end = at;
     let mut i: usize = 0;
     while i < count {
-        let start = WIDTH * i;
-        end = text::put_row(room, end, &numbers[start..start + WIDTH]);
+        let k = WIDTH * i;
+        let line = [
+            numbers[k],
+            numbers[k + 1],
+            numbers[k + 2],
+            numbers[k + 3],
+            numbers[k + 4],
+        ];
+        end = put_line(room, end, line);
         i += 1;
     }
     end

@@ -10,12 +10,13 @@ use Prim.Native.Nat.{ℕ, suc, _+_, _*_, _/_, _%_, _<_}
 use native.Mathlib.Nat.{zero-add, le-of-suc-le-suc}
 use native.Mathlib.Omega.{arith}
 use lib.Dec.{eqb, ltb}
-use lib.ListN.{length, length-append}
-use lib.Seq.{append-snoc}
+use lib.IntN.{ℤ}
+use lib.ListN.{length, getD, length-append}
+use lib.Seq.{append-snoc, getD-at}
 use borrow.Author.Tests.{eqb-true, eqb-false, ltb-true, ltb-false, le-ltb, eq-eqb, ne-eqb}
 use Rattle.answers.specs.declared.Outcome.{Outcome}
 use Rattle.answers.specs.Lists.{All}
-use Rattle.answers.specs.Table.{row, says, outcome, Verdict, refused, unless, first, answerOf}
+use Rattle.answers.specs.Table.{row, says, outcome, outcomeAt, found, Verdict, refused, unless, first, answerOf}
 use Rattle.answers.proofs.Lists.{all-append, all-left, all-right}
 use Rattle.nibbles.specs.Nibbles.{nibbles, pack, total, sum}
 use Rattle.nibbles.proofs.Laws.{length-nibbles, nibbles-narrow, pack-nibbles, pack-pair, pack-across, not-wide, wide-behind}
@@ -23,7 +24,7 @@ use Rattle.nibbles.proofs.Laws.{sum-around, missed, sums-exchanged, Position, a
 use Rattle.nibbles.proofs.Laws.{Neighbours, within, across, at-end, neighbours}
 use Rattle.ranges.proofs.Between.{MovedBy}
 use Rattle.ranges.proofs.Runs.{run-bytes}
-use Rattle.fields.specs.Fields.{fields}
+use Rattle.fields.specs.Fields.{fields, valueAt}
 use Rattle.patch.specs.Patch.{firstOut}
 use Rattle.patch.proofs.Runs.{fields-moved}
 use Rattle.messages.specs.Kinds.{aPatch, Dump, ofDump, Filed, sizeOf}
@@ -45,28 +46,28 @@ wrong-sum : (d : List ℕ) (s : ℕ) → All (λ b. b < 16) d → (s ≡ sum (pa
 unfolding dataRows
 wrong-sum d s a n v = rw (not-wide 0 d a, ne-eqb s (sum (pack d)) n)
 
-out-of-range : (d : List ℕ) (s k : ℕ) → All (λ b. b < 16) d → s ≡ sum (pack d) → firstOut (pack d) ≡ some k → RefusedBy d s (outcome 11 k)
+out-of-range : (d : List ℕ) (s k : ℕ) (w : ℤ) → All (λ b. b < 16) d → s ≡ sum (pack d) → firstOut (pack d) ≡ some (found k w) → RefusedBy d s (outcomeAt 11 k w)
 unfolding dataRows
-out-of-range d s k a e f v = rw (not-wide 0 d a, eq-eqb s (sum (pack d)) e, f)
+out-of-range d s k w a e f v = rw (not-wide 0 d a, eq-eqb s (sum (pack d)) e, f)
 
 -- The low nibble l and the high one h, of the packed byte k, now l′ and h′: beside them the sum is t.
-nibbles-refused : (d : List ℕ) (s t k l h l′ h′ : ℕ) → All (λ b. b < 16) d → l < 16 → h < 16 → l′ < 16 → h′ < 16
+nibbles-refused : (d : List ℕ) (s t k low l h l′ h′ : ℕ) → All (λ b. b < 16) d → l < 16 → h < 16 → l′ < 16 → h′ < 16
     → s ≡ (t + (l + 16 * h)) % 128 → sum (pack d) ≡ (t + (l′ + 16 * h′)) % 128 → ((l′ ≡ l) × (h′ ≡ h) → ⊥)
-    → (l′ ≡ l → MovedBy 8 h h′ → firstOut (pack d) ≡ some k) → RefusedBy d s (nibblesRefusal k l h l′ h′)
-nibbles-refused d s t k l h l′ h′ a n₁ n₂ n₃ n₄ was is other out v = go (eqb l′ l) (eqb h′ (h + 8)) (eqb h (h′ + 8)) refl refl refl
+    → (l′ ≡ l → MovedBy 8 h h′ → firstOut (pack d) ≡ some (found k (valueAt k (low + 16 * h′)))) → RefusedBy d s (nibblesRefusal k low l h l′ h′)
+nibbles-refused d s t k low l h l′ h′ a n₁ n₂ n₃ n₄ was is other out v = go (eqb l′ l) (eqb h′ (h + 8)) (eqb h (h′ + 8)) refl refl refl
   where
     go : (x y z : Bool) → eqb l′ l ≡ x → eqb h′ (h + 8) ≡ y → eqb h (h′ + 8) ≡ z
-        → first (sentRows aPatch d s) v ≡ refused (cond (x && (y || z)) (outcome 11 k) (outcome 10 0))
+        → first (sentRows aPatch d s) v ≡ refused (cond (x && (y || z)) (outcomeAt 11 k (valueAt k (low + 16 * h′))) (outcome 10 0))
     go false y z q₁ q₂ q₃ = wrong-sum d s a (λ e. eqb-false l′ l q₁ (missed t l h l′ h′ n₁ n₂ n₃ n₄ (sym was ∙ e ∙ is) .low)) v
     go true true z q₁ q₂ q₃ =
-        let low = eqb-true l′ l q₁ in let up = eqb-true h′ (h + 8) q₂ in out-of-range d s k a (omega arith) (out low (inl up)) v
+        let same = eqb-true l′ l q₁ in let up = eqb-true h′ (h + 8) q₂ in out-of-range d s k _ a (omega arith) (out same (inl up)) v
     go true false true q₁ q₂ q₃ =
-        let low = eqb-true l′ l q₁ in let down = eqb-true h (h′ + 8) q₃ in out-of-range d s k a (omega arith) (out low (inr down)) v
+        let same = eqb-true l′ l q₁ in let down = eqb-true h (h′ + 8) q₃ in out-of-range d s k _ a (omega arith) (out same (inr down)) v
     go true false false q₁ q₂ q₃ =
-        let low = eqb-true l′ l q₁ in
+        let same = eqb-true l′ l q₁ in
         let not-up = eqb-false h′ (h + 8) q₂ in
         let not-down = eqb-false h (h′ + 8) q₃ in
-        wrong-sum d s a (λ e. ⊎-elim (λ z. other (low, z)) (λ (m : MovedBy 8 h h′). ⊎-elim not-up not-down m)
+        wrong-sum d s a (λ e. ⊎-elim (λ z. other (same, z)) (λ (m : MovedBy 8 h h′). ⊎-elim not-up not-down m)
         (missed t l h l′ h′ n₁ n₂ n₃ n₄ (sym was ∙ e ∙ is) .high)) v
 
 -- Of two bytes the first that is no nibble is told, else what is told of two nibbles.
@@ -88,8 +89,8 @@ nibbles-first u x y w s o a t v = go (ltb 15 x) (ltb 15 y) refl refl
         t (omega arith) (omega arith) v
 
 -- Two nibbles exchanged leave the sum wrong: not even a high one alone has moved.
-nibbles-exchanged : (j a b : ℕ) → a < 16 → b < 16 → (a ≡ b → ⊥) → replacedRefusal j a b b a ≡ exchangedRefusal j b
-nibbles-exchanged j a b ha hb other =
+nibbles-exchanged : (j low a b : ℕ) → a < 16 → b < 16 → (a ≡ b → ⊥) → replacedRefusal j low a b b a ≡ exchangedRefusal j b
+nibbles-exchanged j low a b ha hb other =
     rw (le-ltb 15 a (le-of-suc-le-suc ha), le-ltb 15 b (le-of-suc-le-suc hb), ne-eqb a b other, ne-eqb b a (λ e. other (sym e))) (go (eqb (j % 2) 0))
   where
     go : (t : Bool) → cond t (outcome 10 0) (outcome 10 0) ≡ outcome 10 0
@@ -122,14 +123,15 @@ module _ (k : Dump) (filed : Filed (ofDump k)) (patch : k .packed ≡ aPatch) (p
   front-narrow p₁ c r e = all-append (λ b. b < 16) (nibbles p₁) ((c % 16) ∷ []) (nibbles-narrow p₁ (cut-bytes p₁ (c ∷ r) e .0)) (omega arith, tt)
 
   -- A byte whose high nibble moved by 8 is out of its range.
-  moved-byte : (p₁ : List ℕ) (c h : ℕ) (p₂ : List ℕ) → p ≡ p₁ ++ c ∷ p₂ → MovedBy 8 (c / 16) h → firstOut (p₁ ++ (c % 16 + 16 * h) ∷ p₂) ≡ some (length p₁)
+  moved-byte : (p₁ : List ℕ) (c h : ℕ) (p₂ : List ℕ) → p ≡ p₁ ++ c ∷ p₂ → MovedBy 8 (c / 16) h
+      → firstOut (p₁ ++ (c % 16 + 16 * h) ∷ p₂) ≡ some (found (length p₁) (valueAt (length p₁) (c % 16 + 16 * h)))
   moved-byte p₁ c h p₂ e m =
       fields-moved p₁ c (c % 16 + 16 * h) p₂ (rw e at l) (rw e at ok) (⊎-elim (λ z. inl (omega arith)) (λ z. inr (omega arith)) m)
 
   -- The nibbles x and y for those of the byte c.
-  within-refused : (p₁ : List ℕ) (c : ℕ) (p₂ : List ℕ) (x y : ℕ) → p ≡ p₁ ++ c ∷ p₂ → ((x ≡ c % 16) × (y ≡ c / 16) → ⊥)
-      → RefusedBy (nibbles p₁ ++ (x ∷ y ∷ nibbles p₂)) (sum p) (replacedRefusal (length (nibbles p₁)) (c % 16) (c / 16) x y)
-  within-refused p₁ c p₂ x y e other =
+  within-refused : (low : ℕ) (p₁ : List ℕ) (c : ℕ) (p₂ : List ℕ) (x y : ℕ) → p ≡ p₁ ++ c ∷ p₂ → ((x ≡ c % 16) × (y ≡ c / 16) → ⊥)
+      → RefusedBy (nibbles p₁ ++ (x ∷ y ∷ nibbles p₂)) (sum p) (replacedRefusal (length (nibbles p₁)) low (c % 16) (c / 16) x y)
+  within-refused low p₁ c p₂ x y e other =
       let u = nibbles p₁ in
       let d = u ++ (x ∷ y ∷ nibbles p₂) in
       let even : length u % 2 ≡ 0 = omega (arith, length-nibbles p₁) in
@@ -141,17 +143,18 @@ module _ (k : Dump) (filed : Filed (ofDump k)) (patch : k .packed ≡ aPatch) (p
       let packed = pack-pair p₁ p₂ x y in
       let was : sum p ≡ (t + (c % 16 + 16 * (c / 16))) % 128 = rw e (omega (arith, sum-around p₁ c p₂)) in
       let is : sum (pack d) ≡ (t + (x + 16 * y)) % 128 = rw packed (sum-around p₁ (x + 16 * y) p₂) in
-      let out : x ≡ c % 16 → MovedBy 8 (c / 16) y → firstOut (pack d) ≡ some (length p₁) = λ low m. rw (packed, low) (moved-byte p₁ c y p₂ e m) in
+      let out : x ≡ c % 16 → MovedBy 8 (c / 16) y → firstOut (pack d) ≡ some (found (length p₁) (valueAt (length p₁) (c % 16 + 16 * y))) =
+          λ same m. rw (packed, same) (moved-byte p₁ c y p₂ e m) in
       rw (eq-eqb (length u % 2) 0 even, half)
-      (nibbles-first u x y (nibbles p₂) (sum p) (nibblesRefusal (length p₁) (c % 16) (c / 16) x y) front
-      (λ hx hy. nibbles-refused d (sum p) t (length p₁) (c % 16) (c / 16) x y
+      (nibbles-first u x y (nibbles p₂) (sum p) (nibblesRefusal (length p₁) (c % 16) (c % 16) (c / 16) x y) front
+      (λ hx hy. nibbles-refused d (sum p) t (length p₁) (c % 16) (c % 16) (c / 16) x y
       (all-append (λ b. b < 16) u (x ∷ y ∷ nibbles p₂) front (hx, (hy, nibbles-narrow p₂ (a₂ .1))))
       (omega arith) (omega arith) hx hy was is other out))
 
   -- The nibbles x and y for the high one of the byte c and the low one of the next, c′.
   across-refused : (p₁ : List ℕ) (c c′ : ℕ) (p₂ : List ℕ) (x y : ℕ) → p ≡ p₁ ++ c ∷ c′ ∷ p₂ → ((x ≡ c / 16) × (y ≡ c′ % 16) → ⊥)
       → let u = nibbles p₁ ++ ((c % 16) ∷ []) in
-      RefusedBy (u ++ (x ∷ y ∷ (c′ / 16) ∷ nibbles p₂)) (sum p) (replacedRefusal (length u) (c / 16) (c′ % 16) x y)
+      RefusedBy (u ++ (x ∷ y ∷ (c′ / 16) ∷ nibbles p₂)) (sum p) (replacedRefusal (length u) (c % 16) (c / 16) (c′ % 16) x y)
   unfolding total
   across-refused p₁ c c′ p₂ x y e other =
       let u = nibbles p₁ ++ ((c % 16) ∷ []) in
@@ -168,12 +171,12 @@ module _ (k : Dump) (filed : Filed (ofDump k)) (patch : k .packed ≡ aPatch) (p
       let packed = rw (← (append-snoc (nibbles p₁) (c % 16) (x ∷ y ∷ r))) at (pack-across p₁ p₂ (c % 16) x y (c′ / 16)) in
       let was : sum p ≡ (t + (c′ % 16 + 16 * (c / 16))) % 128 = rw e (omega (arith, sum-around p₁ c (c′ ∷ p₂))) in
       let is : sum (pack d) ≡ (t + (y + 16 * x)) % 128 = rw packed (omega (arith, sum-around p₁ (c % 16 + 16 * x) ((y + 16 * (c′ / 16)) ∷ p₂))) in
-      let out : y ≡ c′ % 16 → MovedBy 8 (c / 16) x → firstOut (pack d) ≡ some (length p₁) = λ low m.
+      let out : y ≡ c′ % 16 → MovedBy 8 (c / 16) x → firstOut (pack d) ≡ some (found (length p₁) (valueAt (length p₁) (c % 16 + 16 * x))) = λ low m.
       let same : y + 16 * (c′ / 16) ≡ c′ = omega arith in
       rw (packed, same) (moved-byte p₁ c x (c′ ∷ p₂) e m) in
       rw (ne-eqb (length u % 2) 0 odd, half)
-      (nibbles-first u x y r (sum p) (nibblesRefusal (length p₁) (c′ % 16) (c / 16) y x) front
-      (λ hx hy. nibbles-refused d (sum p) t (length p₁) (c′ % 16) (c / 16) y x
+      (nibbles-first u x y r (sum p) (nibblesRefusal (length p₁) (c % 16) (c′ % 16) (c / 16) y x) front
+      (λ hx hy. nibbles-refused d (sum p) t (length p₁) (c % 16) (c′ % 16) (c / 16) y x
       (all-append (λ b. b < 16) u (x ∷ y ∷ r) front (hx, (hy, (omega arith, nibbles-narrow p₂ (a .1 .1)))))
       (omega arith) (omega arith) hy hx was is (λ z. other (z .1, z .0)) out))
 
@@ -218,24 +221,30 @@ module _ (k : Dump) (filed : Filed (ofDump k)) (patch : k .packed ≡ aPatch) (p
     length-append w v,
   )
 
+  -- The byte before the first of two, the bytes n and u: a low nibble where the first is a high one.
+  abbrev pub lowBefore : ℕ → List ℕ → ℕ
+  lowBefore n u = getD (n ∷ u) (length u) 0
+
   -- Two neighbours a and b of the nibbles replaced by x and y.
   pub two-replaced : (n : ℕ) (u : List ℕ) (a b : ℕ) (v : List ℕ) (x y : ℕ) → u ++ a ∷ b ∷ v ≡ sent → suc (length u) < 268
-      → ((x ≡ a) × (y ≡ b) → ⊥) → Comes n (u ++ x ∷ y ∷ v) (replacedRefusal (length u) a b x y)
+      → ((x ≡ a) × (y ≡ b) → ⊥) → Comes n (u ++ x ∷ y ∷ v) (replacedRefusal (length u) (lowBefore n u) a b x y)
   two-replaced n u a b v x y e h other = go (neighbours p (sum p) u a b v e)
     where
       long : length (u ++ x ∷ y ∷ v) ≡ 269
       long = long-still u (a ∷ b ∷ []) v (x ∷ y ∷ []) e refl
 
-      go : Neighbours p (sum p) u a b v → Comes n (u ++ x ∷ y ∷ v) (replacedRefusal (length u) a b x y)
+      go : Neighbours p (sum p) u a b v → Comes n (u ++ x ∷ y ∷ v) (replacedRefusal (length u) (lowBefore n u) a b x y)
       go (within p₁ c p₂ e₀ e₁ e₂ e₃ e₄) =
           let d = nibbles p₁ ++ (x ∷ y ∷ nibbles p₂) in
           let same : u ++ x ∷ y ∷ v ≡ d ++ (sum p ∷ []) = rw (e₁, e₄, append-assoc (nibbles p₁) (x ∷ y ∷ nibbles p₂) (sum p ∷ [])) in
-          comes n (u ++ x ∷ y ∷ v) d (sum p) _ same long (rw (e₁, e₂, e₃) (within-refused p₁ c p₂ x y e₀ (rw (e₂, e₃) at other)))
+          comes n (u ++ x ∷ y ∷ v) d (sum p) _ same long (rw (e₁, e₂, e₃) (within-refused (lowBefore n (nibbles p₁)) p₁ c p₂ x y e₀ (rw (e₂, e₃) at other)))
       go (across p₁ c c′ p₂ e₀ e₁ e₂ e₃ e₄) =
           let front = nibbles p₁ ++ ((c % 16) ∷ []) in
           let r = x ∷ y ∷ (c′ / 16) ∷ nibbles p₂ in
           let same : u ++ x ∷ y ∷ v ≡ (front ++ r) ++ (sum p ∷ []) = rw (e₁, e₄, append-assoc front r (sum p ∷ [])) in
-          comes n (u ++ x ∷ y ∷ v) (front ++ r) (sum p) _ same long (rw (e₁, e₂, e₃) (across-refused p₁ c c′ p₂ x y e₀ (rw (e₂, e₃) at other)))
+          let long-front : suc (length (nibbles p₁)) ≡ length front = omega (arith, length-append (nibbles p₁) ((c % 16) ∷ [])) in
+          let low : lowBefore n front ≡ c % 16 = getD-at (n ∷ nibbles p₁) (c % 16) [] 0 (length front) long-front in
+          comes n (u ++ x ∷ y ∷ v) (front ++ r) (sum p) _ same long (rw (e₁, e₂, e₃, low) (across-refused p₁ c c′ p₂ x y e₀ (rw (e₂, e₃) at other)))
       go (at-end p₁ c e₀ e₁ e₂ e₃ e₄) =
           absurd (omega (arith, ap length e₀, ap length e₁, length-append (nibbles p₁) ((c % 16) ∷ []), length-nibbles p₁, length-append p₁ (c ∷ [])))
 
@@ -244,7 +253,7 @@ module _ (k : Dump) (filed : Filed (ofDump k)) (patch : k .packed ≡ aPatch) (p
   exchanged n u a b v e other = go (neighbours p (sum p) u a b v e)
     where
       nibbles-both : suc (length u) < 268 → a < 16 → b < 16 → Comes n (u ++ b ∷ a ∷ v) (exchangedRefusal (length u) b)
-      nibbles-both h ha hb = rw (nibbles-exchanged (length u) a b ha hb other) at (two-replaced n u a b v b a e h (λ z. other (z .1)))
+      nibbles-both h ha hb = rw (nibbles-exchanged (length u) (lowBefore n u) a b ha hb other) at (two-replaced n u a b v b a e h (λ z. other (z .1)))
 
       go : Neighbours p (sum p) u a b v → Comes n (u ++ b ∷ a ∷ v) (exchangedRefusal (length u) b)
       go (within p₁ c p₂ e₀ e₁ e₂ e₃ e₄) =

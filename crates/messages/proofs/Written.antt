@@ -12,7 +12,7 @@ use borrow.Author.Tests.{eq-eqb, eqb-true, not-false, ltb-false}
 use Rattle.answers.specs.Lists.{All}
 use Rattle.answers.specs.Table.{done}
 use Rattle.answers.proofs.Lists.{all-append, all-weaken}
-use Rattle.answers.proofs.Rows.{first-passed, row-silent, row-equal, row-at-silent}
+use Rattle.answers.proofs.Rows.{first-passed, row-silent, row-equal, row-found-silent}
 use Rattle.answers.specs.promises.Decides.{Silent}
 use Rattle.streams.specs.Bytes.{framed}
 use Rattle.nibbles.specs.Nibbles.{nibbles, sum}
@@ -144,7 +144,7 @@ sound (ofDump k) b p f g u a =
     let l = row-equal 7 (length p) (sizeOf (k .packed)) (a .0) in
     let number = row-silent 8 (misnumbered (k .behind) n) (a .1 .0) in
     let table = shapeOf (k .packed) .table in
-    let bytes = packed-bytes table p u (row-at-silent 11 (outBy table p) (a .1 .1 .0)) in
+    let bytes = packed-bytes table p u (row-found-silent 11 (outBy table p) (a .1 .1 .0)) in
     let small = seven-bits (ofDump k) f in
     record {
       content = dumpContent (k .opcode) n p;

@@ -4,7 +4,7 @@ use mathlib.Core.List.{List, [], _∷_, _++_}
 use Prim.Native.Nat.{ℕ, zero, suc, _+_, _*_}
 use lib.Dec.{eqb, ltb}
 use lib.ListN.{length, take, drop, getD}
-use Rattle.answers.specs.Table.{Row, row, rowAt, Verdict, done, first}
+use Rattle.answers.specs.Table.{Row, row, rowAt, rowFound, Verdict, done, first}
 use Rattle.nibbles.specs.Nibbles.{pack, sum, firstWide}
 use Rattle.ranges.specs.Ranges.{outBy}
 use Rattle.patch.specs.Patch.{halfFrom}
@@ -42,7 +42,7 @@ numberIn (always byte) n = []
 
 -- The tests of a dump's packed bytes: 11 by their table, 12 by their buses.
 abbrev pub packedRows : Packed → List ℕ → List Row
-packedRows q p = rowAt 11 (outBy (shapeOf q .table) p) ∷ rowAt 12 (halfFrom (shapeOf q .buses) 0 p) ∷ []
+packedRows q p = rowFound 11 (outBy (shapeOf q .table) p) ∷ rowAt 12 (halfFrom (shapeOf q .buses) 0 p) ∷ []
 
 -- The tests of a dump's data bytes d, of the sum s behind them, and of what they pack to.
 abbrev pub sentRows : Packed → List ℕ → ℕ → List Row

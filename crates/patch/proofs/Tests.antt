@@ -1,23 +1,15 @@
--- The tests of a patch as rows of a table of answers: what the searches found, and what rows that say nothing tell of the patch.
-use mathlib.Core.Path.{_≡_, ap, _∙_}
-use mathlib.Core.List.{List, [], _∷_}
-use mathlib.Core.Option.{Option, none}
+-- The tests of a patch as rows of a table of answers, and what rows that say nothing tell of the patch.
+use mathlib.Core.Path.{_≡_}
+use mathlib.Core.List.{List}
+use mathlib.Core.Option.{none}
 use Prim.Native.Nat.{ℕ}
 use native.Mathlib.Omega.{arith}
 use lib.ListN.{length}
 use borrow.Author.Tests.{eq-eqb}
-use Rattle.answers.specs.Table.{rowAt}
 use Rattle.answers.specs.Effect.{tested}
-use Rattle.answers.proofs.Rows.{Refusals, row-at-silent, row-equal}
+use Rattle.answers.proofs.Rows.{Refusals, row-at-silent, row-found-silent, row-equal}
 use Rattle.answers.specs.promises.Decides.{Silent}
 use Rattle.patch.specs.Patch.{firstOut, firstHalf, fieldRows, patchRows}
-
--- What a patch's fields are answered, by what the two searches found.
-pub fields-answer : (p : List ℕ) (out half : Option ℕ) → firstOut p ≡ out → firstHalf p ≡ half
-    → tested (fieldRows p) ≡ tested (rowAt 11 out ∷ rowAt 12 half ∷ [])
-fields-answer p out half e f =
-    ap (λ (o : Option ℕ). tested (rowAt 11 o ∷ rowAt 12 (firstHalf p) ∷ [])) e
-    ∙ ap (λ (h : Option ℕ). tested (rowAt 11 out ∷ rowAt 12 h ∷ [])) f
 
 module _ (p : List ℕ) where
   -- The rows of a patch's fields, and of a lent patch, are refusals.
@@ -33,7 +25,7 @@ module _ (p : List ℕ) where
 
   -- Where those of the fields say nothing, each byte is in range and no bus half used; and the other way round.
   pub fields-pass : Silent (fieldRows p) → (firstOut p ≡ none) × (firstHalf p ≡ none)
-  fields-pass a = (row-at-silent 11 (firstOut p) (a .0), row-at-silent 12 (firstHalf p) (a .1 .0))
+  fields-pass a = (row-found-silent 11 (firstOut p) (a .0), row-at-silent 12 (firstHalf p) (a .1 .0))
 
   pub fields-silent : firstOut p ≡ none → firstHalf p ≡ none → Silent (fieldRows p)
   fields-silent e f = (rw e, (rw f, tt))

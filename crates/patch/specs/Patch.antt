@@ -1,16 +1,20 @@
--- The tests of a patch: the field ranges and the bus rule.
+-- The tests of a patch: the field ranges and the bus rule; and the value of a parameter in one.
 use mathlib.Core.Bool.{Bool, cond, not, Bool·beq}
 use mathlib.Core.List.{List, [], _∷_}
 use mathlib.Core.Option.{Option, none, some}
 use Prim.Native.Nat.{ℕ, zero, suc, _+_, _*_}
 use lib.Dec.{eqb}
+use lib.IntN.{ℤ, pos}
 use lib.ListN.{length, getD}
-use Rattle.answers.specs.Table.{Row, row, rowAt}
+use Rattle.answers.specs.declared.Outcome.{Outcome}
+use Rattle.answers.specs.Table.{Row, row, rowAt, rowFound, Found, Verdict, done, refused, first, outcome}
 use Rattle.ranges.specs.Ranges.{outFrom}
-use Rattle.fields.specs.Fields.{size, fields}
+use Rattle.fields.specs.Fields.{size, fields, valueAt, placeOf}
+use Rattle.fields.specs.Parameters.{parameterRow}
+use Rattle.patch.specs.declared.Held.{Held}
 
--- The lowest place out of range.
-abbrev pub firstOut : List ℕ → Option ℕ
+-- The lowest place out of range, and the value found there.
+abbrev pub firstOut : List ℕ → Option Found
 firstOut p = outFrom fields 0 p
 
 -- Where bus b has its source, its amount and its destination.
@@ -41,7 +45,7 @@ firstHalf p = halfFrom buses 0 p
 
 -- The two tests that a patch of 134 bytes has to pass: 11, then 12.
 abbrev pub fieldRows : List ℕ → List Row
-fieldRows p = rowAt 11 (firstOut p) ∷ rowAt 12 (firstHalf p) ∷ []
+fieldRows p = rowFound 11 (firstOut p) ∷ rowAt 12 (firstHalf p) ∷ []
 
 -- The test of a lent patch's length.
 abbrev pub lengthRow : List ℕ → Row
@@ -50,3 +54,27 @@ lengthRow p = row 7 (not (eqb (length p) size))
 -- The test of a lent patch: 7, then 11, then 12.
 abbrev pub patchRows : List ℕ → List Row
 patchRows p = lengthRow p ∷ fieldRows p
+
+-- What a parameter has in a patch: an outcome and a value, 0 when refused.
+abbrev pub held : Outcome → ℤ → Held
+held o v = record { outcome = o; value = v }
+
+abbrev pub notHeld : Outcome → Held
+notHeld o = held o (pos 0)
+
+-- The tests of asking for it: 8, then the patch's own.
+abbrev pub heldRows : ℕ → List ℕ → List Row
+heldRows n p = parameterRow n ∷ patchRows p
+
+-- The value of the byte at a place of a patch.
+abbrev pub valueIn : Option ℕ → List ℕ → ℤ
+valueIn none p = pos 0
+valueIn (some k) p = valueAt k (getD p k 0)
+
+abbrev pub heldBy : ℤ → Verdict → Held
+heldBy v (done o b p) = held (outcome 0 0) v
+heldBy v (refused o) = notHeld o
+
+-- The value of a parameter in a lent patch.
+unfoldable pub holding : ℕ → List ℕ → Held
+holding n p = heldBy (valueIn (placeOf n) p) (first (heldRows n p) (done 0 [] []))

@@ -1,26 +1,32 @@
-// The tests of a patch: 7, then 11 with the lowest place, then 12 with the lowest bus.
+// The tests of a patch: 7, then 11 with the lowest place and the value found there, then 12 with the lowest bus; and the value of a
+// parameter in one.
+use answers::DONE;
 use answers::HALF_USED;
-use answers::OUT_OF_RANGE;
+use answers::NOT_ALLOWED;
 use answers::Outcome;
 use answers::WRONG_LENGTH;
 use fields::BUSES;
 use fields::BytePlace;
 use fields::DESTINATION_AT;
+use fields::FoundPlace;
 use fields::NAME;
 use fields::NAME_SIZE;
 use fields::PLACES;
+use fields::Parameter;
 use fields::SOURCE_AT;
 use fields::columns::LEAST;
 use fields::columns::WIDTH;
 use ranges::Failed;
 ghost use mathlib.Core.Path.{_≡_};
 ghost use mathlib.Core.Bool.{true};
+ghost use mathlib.Core.List.{[], _∷_};
 ghost use mathlib.Core.Option.{none};
 ghost use lib.ListN.{length};
 ghost use Rattle.answers.specs.Effect.{tested};
+ghost use Rattle.answers.specs.Table.{rowFound};
 ghost use Rattle.ranges.specs.code.Found.{foundAt};
 ghost use Rattle.fields.specs.Fields.{size};
-ghost use Rattle.patch.specs.Patch.{firstOut, firstHalf, halfUsed, fieldRows, patchRows};
+ghost use Rattle.patch.specs.Patch.{firstOut, firstHalf, halfUsed, fieldRows, patchRows, notHeld, holding};
 ghost use Rattle.patch.specs.code.Passes.{InRange};
 
 // How many bytes a patch has.
@@ -97,22 +103,24 @@ fn all_in_range(p: &[u8]) -> bool
     rest_in_range(p)
 }
 
-// The lowest place out of range. Its caller has tested the length.
-fn first_out(p: &[u8]) -> Failed
+// 11 with the lowest place out of range and the value found there; done with detail 0. Its caller has tested the length.
+fn first_out(p: &[u8]) -> Outcome
     requires { ⌜ length (now p) ≡ size ⌝ }
-    ensures { λ r. ⌜ r ≡ foundAt (firstOut (now (p .entry))) ⌝ }
+    ensures { λ r. ⌜ r ≡ tested (rowFound 11 (firstOut (now (p .entry))) ∷ []) ⌝ }
 {
     if all_in_range(p) {
-        return Failed::Nowhere;
+        return answers::done(0);
     }
     let mut k: usize = 0;
     while k < SIZE {
-        if !fields::in_range(BytePlace(k as u8), p[k]) {
-            return Failed::At(k);
+        let b = p[k];
+        let place = BytePlace(k as u8);
+        if !fields::in_range(place, b) {
+            return answers::out_of_range(k, fields::value_at(place, b));
         }
         k += 1;
     }
-    Failed::Nowhere
+    answers::done(0)
 }
 
 // `true` only where no bus is half used. Each of 28 bytes is seen with the second behind it, many at once: every third is a source,
@@ -164,8 +172,8 @@ fn test_fields(p: &[u8]) -> Outcome
     ensures { λ r. ⌜ r ≡ tested (fieldRows (now (p .entry))) ⌝ }
 {
     let out = first_out(p);
-    if let Failed::At(k) = out {
-        return answers::refused(OUT_OF_RANGE, k);
+    if out.answer != DONE {
+        return out;
     }
     let half = first_half(p);
     if let Failed::At(b) = half {
@@ -174,7 +182,8 @@ fn test_fields(p: &[u8]) -> Outcome
     answers::done(0)
 }
 
-// The test of a lent patch: 7, then 11 with the lowest place, then 12 with the lowest bus; done with detail 0.
+// The test of a lent patch: 7, then 11 with the lowest place and the value found there, then 12 with the lowest bus; done with
+// detail 0.
 pub fn test(p: &[u8]) -> Outcome
     ensures { λ r. ⌜ r ≡ tested (patchRows (now (p .entry))) ⌝ }
 {
@@ -182,4 +191,36 @@ pub fn test(p: &[u8]) -> Outcome
         return answers::refused(WRONG_LENGTH, 0);
     }
     test_fields(p)
+}
+
+// What a parameter has in a patch: an outcome, and the value; 0 when refused.
+#[repr(C)]
+pub struct Held {
+    pub outcome: Outcome,
+    pub value: i16,
+}
+
+// A refusal, with no value.
+fn not_held(outcome: Outcome) -> Held
+    ensures { λ r. ⌜ r ≡ notHeld outcome ⌝ }
+{
+    Held { outcome, value: 0 }
+}
+
+// The value of a parameter in a lent patch, with its sign: 8 for a number that is no parameter's, then the patch's 7, 11 and 12.
+pub fn value_of(p: &[u8], parameter: Parameter) -> Held
+    ensures { λ r. ⌜ r ≡ holding (parameter .0) (now (p .entry)) ⌝ }
+{
+    let FoundPlace::At(place) = fields::place_of(parameter) else {
+        return not_held(answers::refused(NOT_ALLOWED, 0));
+    };
+    let tested = test(p);
+    if tested.answer != DONE {
+        return not_held(tested);
+    }
+    let at = place.0 as usize;
+    Held {
+        outcome: answers::done(0),
+        value: fields::value_at(place, p[at]),
+    }
 }

@@ -1,12 +1,13 @@
 -- What a search in code found is what its definition finds.
-use mathlib.Core.Path.{_≡_, refl}
+use mathlib.Core.Path.{_≡_, refl, ap, sym, _∙_}
 use mathlib.Core.List.{List, [], _∷_}
 use mathlib.Core.Option.{Option, none, some}
 use Prim.Native.Nat.{ℕ}
 use native.Mathlib.Omega.{arith}
 use lib.ListN.{length}
 use borrow.Author.Tests.{eq-eqb}
-use Rattle.answers.specs.Table.{rowAt, outcome}
+use Rattle.answers.specs.declared.Outcome.{Outcome}
+use Rattle.answers.specs.Table.{rowFound, Found, found, outcome}
 use Rattle.answers.specs.Effect.{tested}
 use Rattle.ranges.specs.Ranges.{Table, outFrom, countedRows}
 use Rattle.ranges.specs.declared.Failed.the-variants.{At, Nowhere}
@@ -20,12 +21,21 @@ pub found-none : (o : Option ℕ) → Nowhere ≡ foundAt o → o ≡ none
 found-none (some j) e = cc
 found-none none e = refl
 
+-- The test of a search: refused, it tells what was found; done, nothing was.
+pub told-some : (o : Option Found) (r : Outcome) → r ≡ tested (rowFound 11 o ∷ []) → (r .answer ≡ 0 → ⊥) → o ≡ some (found (r .detail) (r .value))
+told-some (some (found k v)) r e n = rw e
+told-some none r e n = absurd (n (ap (λ (x : Outcome). x .answer) e))
+
+pub told-none : (o : Option Found) (r : Outcome) → r ≡ tested (rowFound 11 o ∷ []) → r .answer ≡ 0 → o ≡ none
+told-none (some (found k v)) r e z = let w : _≡_ {A = ℕ} 11 0 = sym (ap (λ (x : Outcome). x .answer) e) ∙ z in absurd (omega arith)
+told-none none r e z = refl
+
 -- Bytes of the right count, without a table and by one.
 module _ (n : ℕ) (p : List ℕ) (l : length p ≡ n) where
   pub no-table : (t : Table) → length t ≡ 0 → outcome 0 0 ≡ tested (countedRows n (lentTable t) p)
   no-table [] z = rw (eq-eqb (length p) n l)
   no-table (r ∷ t) z = absurd (omega arith)
 
-  pub by-table : (t : Table) (o : Option ℕ) → (length t ≡ 0 → ⊥) → outFrom t 0 p ≡ o → tested (rowAt 11 o ∷ []) ≡ tested (countedRows n (lentTable t) p)
-  by-table [] o z e = absurd (z refl)
-  by-table (r ∷ t) o z e = rw (eq-eqb (length p) n l, e)
+  pub by-table : (t : Table) → (length t ≡ 0 → ⊥) → tested (rowFound 11 (outFrom t 0 p) ∷ []) ≡ tested (countedRows n (lentTable t) p)
+  by-table [] z = absurd (z refl)
+  by-table (r ∷ t) z = rw (eq-eqb (length p) n l)

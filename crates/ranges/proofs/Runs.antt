@@ -8,8 +8,10 @@ use native.Mathlib.Nat.{add-zero}
 use native.Mathlib.Omega.{arith}
 use lib.Dec.{T}
 use lib.ListN.{length, set}
+use lib.IntN.{ℤ}
 use Rattle.answers.specs.Lists.{All}
-use Rattle.ranges.specs.Ranges.{Table, leastIn, greatestIn, inRow, outFrom}
+use Rattle.answers.specs.Table.{Found, found}
+use Rattle.ranges.specs.Ranges.{Table, leastIn, greatestIn, inRow, valueIn, outFrom}
 use Rattle.ranges.proofs.Below.{each, at}
 use Rattle.ranges.proofs.Between.{is-byte, narrow, MovedBy, moved-out}
 
@@ -19,7 +21,7 @@ module _ (t : Table) where
   unfolding outFrom
   one-in k b p e = go (inRow t k b) refl e
     where
-      go : (u : Bool) → inRow t k b ≡ u → cond u (outFrom t (suc k) p) (some k) ≡ none → (inRow t k b ≡ true) × (outFrom t (suc k) p ≡ none)
+      go : (u : Bool) → inRow t k b ≡ u → cond u (outFrom t (suc k) p) (some (found k (valueIn t k b))) ≡ none → (inRow t k b ≡ true) × (outFrom t (suc k) p ≡ none)
       go true q e = (q, e)
       go false q e = let z : _≡_ {A = ℕ} 0 1 = cc in absurd (omega arith)
 
@@ -64,12 +66,13 @@ module _ (t : Table) where
       (one-more-in k x a (c .0) (d .0), d .1)
 
   -- A place that is found is one of the bytes'.
-  pub out-below : (k : ℕ) (p : List ℕ) (j : ℕ) → outFrom t k p ≡ some j → j < k + length p
+  pub out-below : (k : ℕ) (p : List ℕ) (j : ℕ) (v : ℤ) → outFrom t k p ≡ some (found j v) → j < k + length p
   unfolding outFrom
-  out-below k [] j e = let z : _≡_ {A = ℕ} 0 1 = cc in absurd (omega arith)
-  out-below k (b ∷ p) j e = go (inRow t k b) e (out-below (suc k) p j)
+  out-below k [] j v e = let z : _≡_ {A = ℕ} 0 1 = cc in absurd (omega arith)
+  out-below k (b ∷ p) j v e = go (inRow t k b) e (out-below (suc k) p j v)
     where
-      go : (u : Bool) → cond u (outFrom t (suc k) p) (some k) ≡ some j → (outFrom t (suc k) p ≡ some j → j < suc k + length p) → j < k + suc (length p)
+      go : (u : Bool) → cond u (outFrom t (suc k) p) (some (found k (valueIn t k b))) ≡ some (found j v)
+          → (outFrom t (suc k) p ≡ some (found j v) → j < suc k + length p) → j < k + suc (length p)
       go true e rest = let l = rest e in omega arith
       go false e rest = let same : k ≡ j = cc in omega arith
 
@@ -79,7 +82,8 @@ module _ (t : Table) where
 
   -- Where they do, a byte that moved by 128 is the one byte out of range of a run that had none.
   pub runs-moved : T (each narrow-row (length t)) → (k : ℕ) (p₁ : List ℕ) (b c : ℕ) (p₂ : List ℕ) → k + length (p₁ ++ b ∷ p₂) ≤ length t
-      → outFrom t k (p₁ ++ b ∷ p₂) ≡ none → MovedBy 128 b c → outFrom t k (p₁ ++ c ∷ p₂) ≡ some (k + length p₁)
+      → outFrom t k (p₁ ++ b ∷ p₂) ≡ none → MovedBy 128 b c
+      → outFrom t k (p₁ ++ c ∷ p₂) ≡ some (found (k + length p₁) (valueIn t (k + length p₁) c))
   unfolding outFrom inRow
   runs-moved n k [] b c p₂ h e m =
       let small = at narrow-row (length t) n k (omega arith) in
@@ -90,20 +94,23 @@ module _ (t : Table) where
       rw (first .0, next) (runs-moved n (suc k) p₁ b c p₂ (omega arith) (first .1) m)
 
 -- A place, m further on.
-abbrev pub further : ℕ → Option ℕ → Option ℕ
+abbrev pub further : ℕ → Option Found → Option Found
 further m none = none
-further m (some k) = some (m + k)
+further m (some (found k v)) = some (found (m + k) v)
 
 -- Bytes by the rows of a table from place m on, as by a table u of those rows alone.
-pub out-further : (t u : Table) (m j : ℕ) (p : List ℕ) → ((i x : ℕ) → i < j + length p → inRow u i x ≡ inRow t (m + i) x)
+pub out-further : (t u : Table) (m j : ℕ) (p : List ℕ)
+    → ((i : ℕ) → i < j + length p → (leastIn u i ≡ leastIn t (m + i)) × (greatestIn u i ≡ greatestIn t (m + i)))
     → outFrom t (m + j) p ≡ further m (outFrom u j p)
-unfolding outFrom
+unfolding outFrom inRow
 out-further t u m j [] same = refl
 out-further t u m j (b ∷ p) same =
-    let rest = out-further t u m (suc j) p (λ i x h. same i x (omega arith)) in
+    let rest = out-further t u m (suc j) p (λ i h. same i (omega arith)) in
     let next : suc (m + j) ≡ m + suc j = omega arith in
-    rw (← same j b (omega arith), next, rest) (go (inRow u j b))
+    let here = same j (omega arith) in
+    rw (← here .0, ← here .1, next, rest) (go (inRow u j b))
   where
-    go : (v : Bool) → cond v (further m (outFrom u (suc j) p)) (some (m + j)) ≡ further m (cond v (outFrom u (suc j) p) (some j))
+    go : (v : Bool) → cond v (further m (outFrom u (suc j) p)) (some (found (m + j) (valueIn u j b)))
+        ≡ further m (cond v (outFrom u (suc j) p) (some (found j (valueIn u j b))))
     go true = refl
     go false = refl

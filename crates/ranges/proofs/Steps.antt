@@ -7,14 +7,15 @@ use Prim.Native.Nat.{ℕ, _+_, _<_, _≤_}
 use native.Mathlib.Numerals.{add-one}
 use lib.ListN.{length, getD, drop, drop-of-length-le}
 use lib.Seq.{drop-cons}
-use Rattle.ranges.specs.Ranges.{Table, inRow, outFrom}
+use Rattle.answers.specs.Table.{found}
+use Rattle.ranges.specs.Ranges.{Table, inRow, valueIn, outFrom}
 
 module _ (t : Table) (p : List ℕ) (k : ℕ) where
   pub byte-in : k < length p → inRow t k (getD p k 0) ≡ true → outFrom t k (drop k p) ≡ outFrom t (k + 1) (drop (k + 1) p)
   unfolding outFrom
   byte-in h e = rw (drop-cons p k 0 h) (simp (e, add-one))
 
-  pub byte-out : k < length p → inRow t k (getD p k 0) ≡ false → outFrom t k (drop k p) ≡ some k
+  pub byte-out : k < length p → inRow t k (getD p k 0) ≡ false → outFrom t k (drop k p) ≡ some (found k (valueIn t k (getD p k 0)))
   unfolding outFrom
   byte-out h e = rw (drop-cons p k 0 h) (simp e)
 

@@ -3,13 +3,15 @@
 use mathlib.Core.Path.{_≡_, refl, ap}
 use mathlib.Core.Bool.{Bool, true, false, cond, _&&_}
 use mathlib.Core.List.{[]}
-use Prim.Native.Nat.{ℕ, _+_, _-_, _*_, _≤_, _<_}
+use Prim.Native.Nat.{ℕ, suc, _+_, _-_, _*_, _≤_, _<_}
 use native.Mathlib.Omega.{arith}
 use lib.Dec.{T, eqb, leb, ltb, eqb→eq, leb→le, ltb→lt}
 use lib.ListN.{length, List·getD-eq-default}
 use borrow.Author.Tests.{lt-ltb, le-ltb, le-leb, lt-leb, ltb-true, ltb-false}
-use Rattle.ranges.specs.Ranges.{Table, placeIn, leastIn, greatestIn, between, inRow}
-use Rattle.ranges.specs.Values.{Value, plus, minus, valueOf, signedIn, valueIn, atMost, fromTo}
+use lib.IntN.{ℤ, pos, negsuc}
+use lib.Signed.{leZ}
+use Rattle.ranges.specs.Ranges.{Table, placeIn, leastIn, greatestIn, between, inRow, signedIn, valueIn}
+use Rattle.ranges.specs.Values.{plus, minus, valueOf, valueBy, fromTo}
 use Rattle.ranges.specs.promises.Tables.{TableRule, Goes}
 use Rattle.ranges.proofs.Below.{parts, each, at}
 use Rattle.ranges.proofs.Between.{is-byte}
@@ -19,6 +21,10 @@ plain-range : (l g b : ℕ) → l ≤ g → b < 256 → between l g b ≡ fromTo
 unfolding between
 plain-range l g b h hb = simp (lt-ltb b 256 hb, le-leb l g h)
 
+-- What a byte lacks to 256, below zero.
+pub lacking : (b : ℕ) → b < 256 → minus (256 - b) ≡ negsuc (255 - b)
+lacking b h = let e : 256 - b ≡ suc (255 - b) = omega arith in rw e
+
 -- Through 255 to 0.
 signed-range : (l g b : ℕ) → g < 0x80 → 0x80 ≤ l → l < 256 → b < 256 → between l g b ≡ fromTo (valueOf l) (valueOf g) (valueOf b)
 unfolding between valueOf
@@ -27,7 +33,7 @@ signed-range l g b hg hl sl hb = go (ltb b 0x80) (ltb b l) refl refl
     go : (t u : Bool) → ltb b 0x80 ≡ t → ltb b l ≡ u → between l g b ≡ fromTo (valueOf l) (valueOf g) (valueOf b)
     go true u q r =
         let a = ltb-true b 0x80 q in
-        simp (lt-ltb b 256 hb, lt-leb l g (omega arith), lt-leb l b (omega arith), q, le-ltb l 0x80 hl, lt-ltb g 0x80 hg)
+        simp (lt-ltb b 256 hb, lt-leb l g (omega arith), lt-leb l b (omega arith), q, le-ltb l 0x80 hl, lt-ltb g 0x80 hg, lacking l sl)
     go false true q r =
         let a = ltb-false b 0x80 q in
         let c = ltb-true b l r in
@@ -39,24 +45,36 @@ signed-range l g b hg hl sl hb = go (ltb b 0x80) (ltb b l) refl refl
           q,
           le-ltb l 0x80 hl,
           lt-ltb g 0x80 hg,
-          lt-leb (256 - b) (256 - l) (omega arith),
+          lacking b hb,
+          lacking l sl,
+          lt-leb (255 - b) (255 - l) (omega arith),
         )
     go false false q r =
         let c = ltb-false b l r in
-        simp (lt-ltb b 256 hb, lt-leb l g (omega arith), le-leb l b c, q, le-ltb l 0x80 hl, lt-ltb g 0x80 hg, le-leb (256 - b) (256 - l) (omega arith))
+        simp (
+          lt-ltb b 256 hb,
+          lt-leb l g (omega arith),
+          le-leb l b c,
+          q,
+          le-ltb l 0x80 hl,
+          lt-ltb g 0x80 hg,
+          lacking b hb,
+          lacking l sl,
+          le-leb (255 - b) (255 - l) (omega arith),
+        )
 
 -- Two values are the same.
-abbrev pub same : Value → Value → Bool
-same (plus a) (plus b) = eqb a b
-same (plus a) (minus b) = false
-same (minus a) (plus b) = false
-same (minus a) (minus b) = eqb a b
+abbrev same : ℤ → ℤ → Bool
+same (pos a) (pos b) = eqb a b
+same (pos a) (negsuc b) = false
+same (negsuc a) (pos b) = false
+same (negsuc a) (negsuc b) = eqb a b
 
-pub is-same : (v w : Value) → T (same v w) → v ≡ w
-is-same (plus a) (plus b) t = ap plus (eqb→eq a b t)
-is-same (plus a) (minus b) t = absurd t
-is-same (minus a) (plus b) t = absurd t
-is-same (minus a) (minus b) t = ap minus (eqb→eq a b t)
+is-same : (v w : ℤ) → T (same v w) → v ≡ w
+is-same (pos a) (pos b) t = ap pos (eqb→eq a b t)
+is-same (pos a) (negsuc b) t = absurd t
+is-same (negsuc a) (pos b) t = absurd t
+is-same (negsuc a) (negsuc b) t = ap negsuc (eqb→eq a b t)
 
 module _ (t : Table) where
   abbrev bytes-right : ℕ → Bool
@@ -96,7 +114,7 @@ module _ (t : Table) where
         (ltb→lt _ _ (a .0), leb→le _ _ (a .1))
 
     with-sign : (k b : ℕ) → k < length t → b < 256 → inRow t k b ≡ fromTo (valueIn t k (leastIn t k)) (valueIn t k (greatestIn t k)) (valueIn t k b)
-    unfolding inRow valueIn
+    unfolding inRow valueBy
     with-sign k b h hb = go (signedIn t k) refl (row-of k h .2)
       where
         go : (u : Bool) → signedIn t k ≡ u → T (sign-right u k)
@@ -106,15 +124,15 @@ module _ (t : Table) where
         go true q s = let a = signed-bounds k s in signed-range (leastIn t k) (greatestIn t k) b (a .0) (a .1) (bounds k .0) hb
         go false q s = plain-range (leastIn t k) (greatestIn t k) b (ltb-false (greatestIn t k) (leastIn t k) q) hb
 
-    ordered : (k : ℕ) → k < length t → atMost (valueIn t k (leastIn t k)) (valueIn t k (greatestIn t k)) ≡ true
-    unfolding valueIn valueOf
+    ordered : (k : ℕ) → k < length t → leZ (valueIn t k (leastIn t k)) (valueIn t k (greatestIn t k)) ≡ true
+    unfolding valueBy valueOf
     ordered k h = go (signedIn t k) refl (row-of k h .2)
       where
         go : (u : Bool) → signedIn t k ≡ u → T (sign-right u k)
-            → atMost (cond u (valueOf (leastIn t k)) (plus (leastIn t k))) (cond u (valueOf (greatestIn t k)) (plus (greatestIn t k))) ≡ true
+            → leZ (cond u (valueOf (leastIn t k)) (plus (leastIn t k))) (cond u (valueOf (greatestIn t k)) (plus (greatestIn t k))) ≡ true
         go true q s =
             let a = signed-bounds k s in
-            simp (le-ltb (leastIn t k) 0x80 (a .1), lt-ltb (greatestIn t k) 0x80 (a .0))
+            simp (le-ltb (leastIn t k) 0x80 (a .1), lt-ltb (greatestIn t k) 0x80 (a .0), lacking (leastIn t k) (bounds k .0))
         go false q s = le-leb _ _ (ltb-false (greatestIn t k) (leastIn t k) q)
 
     -- A table whose rows are right keeps the rule.
@@ -128,15 +146,15 @@ module _ (t : Table) where
       accepted = λ k b e. is-byte (leastIn t k) (greatestIn t k) b e;
     }
 
-  abbrev goes : Value → Value → ℕ → Bool
+  abbrev goes : ℤ → ℤ → ℕ → Bool
   goes least greatest k = same (valueIn t k (leastIn t k)) least && same (valueIn t k (greatestIn t k)) greatest
 
-  goes-so : (least greatest : Value) (k : ℕ) → T (goes least greatest k) → Goes t k least greatest
+  goes-so : (least greatest : ℤ) (k : ℕ) → T (goes least greatest k) → Goes t k least greatest
   goes-so least greatest k u =
       let both = parts (same (valueIn t k (leastIn t k)) least) _ u in
       (is-same (valueIn t k (leastIn t k)) least (both .0), is-same (valueIn t k (greatestIn t k)) greatest (both .1))
 
   -- Places that lie d apart from place a on: one test of the n of them.
-  pub each-goes : (least greatest : Value) (a d n : ℕ) → T (each (λ i. goes least greatest (a + d * i)) n) → (i : ℕ) → i < n
+  pub each-goes : (least greatest : ℤ) (a d n : ℕ) → T (each (λ i. goes least greatest (a + d * i)) n) → (i : ℕ) → i < n
       → Goes t (a + d * i) least greatest
   each-goes least greatest a d n u i h = goes-so least greatest (a + d * i) (at (λ i. goes least greatest (a + d * i)) n u i h)

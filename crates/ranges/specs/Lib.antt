@@ -1,4 +1,4 @@
-pub mod Ranges
 pub mod Values
+pub mod Ranges
 pub mod promises
 pub mod code

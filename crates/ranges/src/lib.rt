@@ -1,16 +1,38 @@
 // Ranges of bytes, and the test of bytes by a table of them.
-use answers::OUT_OF_RANGE;
 use answers::Outcome;
 use answers::WRONG_LENGTH;
 ghost use mathlib.Core.Path.{_≡_};
+ghost use mathlib.Core.List.{[], _∷_};
 ghost use Rattle.answers.specs.Effect.{tested};
-ghost use Rattle.ranges.specs.Ranges.{between, inRow, outFrom, countedRows};
-ghost use Rattle.ranges.specs.code.Found.{foundAt, lentTable};
+ghost use Rattle.answers.specs.Table.{rowFound};
+ghost use Rattle.ranges.specs.Values.{valueOf, valueBy};
+ghost use Rattle.ranges.specs.Ranges.{between, inRow, valueIn, outFrom, countedRows};
+ghost use Rattle.ranges.specs.code.Found.{lentTable};
 
-// The lowest place, index or bus at which a test fails.
+// The lowest index or bus at which a test fails.
 pub enum Failed {
     At(usize),
     Nowhere,
+}
+
+// A byte in two's complement.
+fn with_sign(b: u8) -> i16
+    ensures { λ r. ⌜ r ≡ valueOf b ⌝ }
+{
+    if b < 128 {
+        return b as i16;
+    }
+    b as i16 - 256
+}
+
+// The value of a field's byte: with its sign where the field is signed.
+pub fn value_by(signed: bool, b: u8) -> i16
+    ensures { λ r. ⌜ r ≡ valueBy signed b ⌝ }
+{
+    if signed {
+        return with_sign(b);
+    }
+    b as i16
 }
 
 // A byte lies between two bounds; where the least is above the greatest, the range goes on from 255 to 0. It is no further above the
@@ -33,22 +55,34 @@ fn in_row(table: &[[u8; 4]], place: usize, b: u8) -> bool
     lies_between(row[2], row[3], b)
 }
 
-// The lowest place out of range, as `in_row` tests each byte.
-pub fn first_out(table: &[[u8; 4]], bytes: &[u8]) -> Failed
-    ensures { λ r. ⌜ r ≡ foundAt (outFrom (now (table .entry)) 0 (now (bytes .entry))) ⌝ }
+// The value of a byte at a place, by its row.
+fn value_in(table: &[[u8; 4]], place: usize, b: u8) -> i16
+    ensures { λ r. ⌜ r ≡ valueIn (now (table .entry)) place b ⌝ }
+{
+    if table.len() <= place {
+        return value_by(false, b);
+    }
+    let row = table[place];
+    value_by(row[3] < row[2], b)
+}
+
+// 11 with the lowest place out of range and the value found there, as `in_row` tests each byte; done with detail 0.
+pub fn first_out(table: &[[u8; 4]], bytes: &[u8]) -> Outcome
+    ensures { λ r. ⌜ r ≡ tested (rowFound 11 (outFrom (now (table .entry)) 0 (now (bytes .entry))) ∷ []) ⌝ }
 {
     let mut k: usize = 0;
     while k < bytes.len() {
-        if !in_row(table, k, bytes[k]) {
-            return Failed::At(k);
+        let b = bytes[k];
+        if !in_row(table, k, b) {
+            return answers::out_of_range(k, value_in(table, k, b));
         }
         k += 1;
     }
-    Failed::Nowhere
+    answers::done(0)
 }
 
 // The test of so many bytes by the table of their ranges, where a table without rows is none: 7 for another count of them, then 11
-// with the lowest place out of range; done with detail 0.
+// with the lowest place out of range and the value found there; done with detail 0.
 pub fn test(count: usize, table: &[[u8; 4]], bytes: &[u8]) -> Outcome
     ensures { λ r. ⌜ r ≡ tested (countedRows count (lentTable (now (table .entry))) (now (bytes .entry))) ⌝ }
 {
@@ -58,9 +92,5 @@ pub fn test(count: usize, table: &[[u8; 4]], bytes: &[u8]) -> Outcome
     if table.len() == 0 {
         return answers::done(0);
     }
-    let out = first_out(table, bytes);
-    match out {
-        Failed::At(k) => answers::refused(OUT_OF_RANGE, k),
-        Failed::Nowhere => answers::done(0),
-    }
+    first_out(table, bytes)
 }

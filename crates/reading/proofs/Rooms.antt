@@ -1,17 +1,22 @@
 -- Reports in lent room: none, one, or one and then those of the part behind it.
-use mathlib.Core.Path.{_≡_, refl, sym, ap, _∙_}
+use mathlib.Core.Path.{_≡_, refl, sym, ap, _∙_, subst}
 use mathlib.Core.List.{List, [], _∷_, _++_, append-assoc}
 use Prim.Native.Nat.{ℕ, zero, suc, _+_, _-_, _*_, _/_, _<_, _≤_}
 use native.Mathlib.Omega.{arith}
 use lib.ListN.{length, take, drop, getD, length-drop, take-append-drop, drop-of-length-le}
 use lib.Seq.{take-nil, take-all, take-take, length-take-le, drop-append-le, getD-append-add}
 use borrow.Rule.Slice.PartMut.{putMid}
+use lib.IntN.{ℤ}
+use mir.Syntax.{w16}
+use mir.Val.{SFits}
+use Rattle.answers.specs.code.Numbers.{asNumber, ofNumber}
 use Rattle.answers.proofs.Lists.{to-end, then-part}
+use Rattle.answers.proofs.Signed.{number-back}
 use Rattle.streams.specs.Bytes.{body}
 use Rattle.streams.specs.Stream.{Report, messageAt}
 use Rattle.streams.specs.code.Scan.{State, outside, inside, scan}
 use Rattle.messages.specs.Judge.{judge}
-use Rattle.reading.specs.code.Rooms.{numbersOf, width, flat, fitting, Holds, endOf, most, made, Makes}
+use Rattle.reading.specs.code.Rooms.{numbersOf, width, flat, fitting, Tells, Holds, endOf, most, made, Makes}
 use Rattle.reading.specs.code.Told.{reportOf}
 use Rattle.reading.specs.declared.walking.Report.{Report as Numbers}
 
@@ -25,11 +30,11 @@ pub lists-full : (rs : List Report) (old : List ℕ) → length old < width → 
 unfolding flat
 lists-full rs old h =
     let e : length old / width ≡ 0 = omega arith in
-    record { count = rw e; numbers = rw e }
+    record { count = rw e; numbers = rw e; values = rw e tt }
 
 pub lists-none : (old : List ℕ) → Holds (fitting old []) old old 0
 unfolding flat
-lists-none old = record { count = rw (take-nil (length old / width)); numbers = rw (take-nil (length old / width)) }
+lists-none old = let e = take-nil {A = Report} (length old / width) in record { count = rw e; numbers = rw e; values = rw e tt }
 
 -- No more reports than there is place for.
 pub take-most : (n : ℕ) (rs : List Report) → length (take n rs) ≤ n
@@ -47,7 +52,7 @@ abbrev pub PartHolds : List ℕ → List Report → List ℕ → ℕ → Type 0
 PartHolds xs rs ys k = let part = take (length xs - width) (drop width xs) in Holds (fitting part rs) part ys k
 
 -- One report at the start, and the others in the part behind it.
-module _ (r : Report) (rs : List Report) (old xs : List ℕ) (h : width ≤ length old) (e : xs ≡ numbersOf r ++ drop width old) where
+module _ (r : Report) (rs : List Report) (old xs : List ℕ) (h : width ≤ length old) (e : xs ≡ numbersOf r ++ drop width old) (tells : Tells r) where
   rest : ℕ
   rest = (length old - width) / width
 
@@ -75,10 +80,12 @@ module _ (r : Report) (rs : List Report) (old xs : List ℕ) (h : width ≤ leng
         numbers =
             rw (room, more)
             (then-part (numbersOf r) (flat made) old xs ys width (width * length made) refl (length-flat made) fits e (rw part-room at (l .numbers)));
+        values = rw room (tells, rw part-room at (l .values));
       }
 
 -- The scan gives a message's report, then goes on at place q behind the byte that ended the body, n bytes on, in a state st.
-module _ (s : List ℕ) (f : ℕ) (old xs : List ℕ) (h : width ≤ length old) (e : xs ≡ numbersOf (messageAt judge f s) ++ drop width old) where
+module _ (s : List ℕ) (f : ℕ) (old xs : List ℕ) (h : width ≤ length old) (e : xs ≡ numbersOf (messageAt judge f s) ++ drop width old)
+    (tells : Tells (messageAt judge f s)) where
   pub lists-on : (n : ℕ) → n ≡ length (body s) → (st : ℕ → State) (q : ℕ) → q ≡ suc (f + 1 + n)
       → scan judge (suc f) (inside f []) s
       ≡ messageAt judge f s ∷ scan judge (suc (suc f + length (body s))) (st (suc f + length (body s))) (drop (length (body s) + 1) s)
@@ -86,15 +93,16 @@ module _ (s : List ℕ) (f : ℕ) (old xs : List ℕ) (h : width ≤ length old)
       → Holds (fitting old (scan judge (suc f) (inside f []) s)) old (putMid width (length xs - width) xs ys) (1 + k)
   lists-on n index st q next on ys k l =
       let place : f + 1 + length (body s) ≡ suc f + length (body s) = omega arith in
-      rw on (lists-more (messageAt judge f s) _ old xs h e ys k (rw (to-end (n + 1) s, next, index, place) at l))
+      rw on (lists-more (messageAt judge f s) _ old xs h e tells ys k (rw (to-end (n + 1) s, next, index, place) at l))
 
 -- One report and no other.
-pub lists-one : (r : Report) (old xs : List ℕ) → width ≤ length old → xs ≡ numbersOf r ++ drop width old
+pub lists-one : (r : Report) (old xs : List ℕ) → width ≤ length old → xs ≡ numbersOf r ++ drop width old → Tells r
     → Holds (fitting old (r ∷ [])) old xs 1
 unfolding flat
-lists-one r old xs h e =
+lists-one r old xs h e tells =
     let room : length old / width ≡ suc ((length old - width) / width) = omega arith in
-    record { count = rw (room, take-nil ((length old - width) / width)); numbers = e ∙ rw (room, take-nil ((length old - width) / width)) }
+    let one = take-nil {A = Report} ((length old - width) / width) in
+    record { count = rw (room, one); numbers = e ∙ rw (room, one); values = rw (room, one) (tells, tt) }
 
 -- There are no more of them than the part has numbers.
 pub part-fits : (xs : List ℕ) (rs : List Report) {ys : List ℕ} {k : ℕ} → PartHolds xs rs ys k → k ≤ length xs - width
@@ -103,9 +111,13 @@ part-fits xs rs {ys} {k} l =
     omega (arith, l .count, take-most (length part / width) rs, ap length (to-end width xs), length-drop width xs)
 
 -- A report's numbers as the code has them.
-pub four-numbers : (m : Report) (r : Numbers) → r ≡ reportOf m
-    → r .start ∷ r .end ∷ r .outcome .answer ∷ r .outcome .detail ∷ [] ≡ numbersOf m
-four-numbers m r e = rw e
+pub same-numbers : (m : Report) (r : Numbers) → r ≡ reportOf m
+    → r .start ∷ r .end ∷ r .outcome .answer ∷ r .outcome .detail ∷ asNumber (r .outcome .value) ∷ [] ≡ numbersOf m
+same-numbers m r e = rw e
+
+-- Its value, which the code has in 16 bits, is told.
+pub value-told : (m : Report) (r : Numbers) → r ≡ reportOf m → SFits w16 (r .outcome .value) → Tells m
+value-told m r e f = subst (λ (v : ℤ). ofNumber (asNumber v) ≡ v) (ap (λ (x : Numbers). x .outcome .value) e) (number-back (r .outcome .value) f)
 
 -- At most 8 of the reports, from a larger room of which the first part was lent, and from a smaller one.
 module _ (s : List ℕ) (place : ℕ) where
@@ -129,6 +141,7 @@ module _ (s : List ℕ) (place : ℕ) where
         numbers =
             let joined = append-assoc (flat (take most all)) (drop (width * m) (take (most * width) old)) (drop (most * width) old) in
             rw same (rw (rw lent at (l .numbers), joined, kept) refl);
+        values = rw same (rw lent at (l .values));
       }
 
   pub fills-whole : (old new : List ℕ) (n : ℕ) → length old ≤ (most * width) → Holds (fitting old (scan judge place outside (drop place s))) old new n
@@ -137,9 +150,9 @@ module _ (s : List ℕ) (place : ℕ) where
   fills-whole old new n h l =
       let rs = take (length old / width) (scan judge place outside (drop place s)) in
       let same : take most rs ≡ rs = take-all most rs (omega (arith, take-most (length old / width) (scan judge place outside (drop place s)))) in
-      record { count = rw same (l .count); numbers = rw same (l .numbers) }
+      record { count = rw same (l .count); numbers = rw same (l .numbers); values = rw same (l .values) }
 
--- The last report's end stands at the second of its four numbers.
+-- The last report's end stands at the second of its numbers.
 pub last-end : (rs : List Report) (p : ℕ) (more : List ℕ) → 0 < length rs → getD (flat rs ++ more) (width * length rs - (width - 1)) 0 ≡ endOf p rs
 unfolding flat endOf
 last-end [] p more h = absurd (omega arith)
@@ -155,7 +168,7 @@ unfolding made flat endOf
 makes-none s place room h =
     let none : drop place s ≡ [] = drop-of-length-le s h in
     let nothing : take most (take (length room / width) (scan judge place outside (drop place s))) ≡ [] = rw (none, take-nil (length room / width)) in
-    record { holds = record { count = rw nothing; numbers = rw nothing }; next = rw nothing }
+    record { holds = record { count = rw nothing; numbers = rw nothing; values = rw nothing tt }; next = rw nothing }
 
 -- Where no report was made, or some, from where to go on.
 module _ (s : List ℕ) (place : ℕ) (old new : List ℕ) (n : ℕ) (f : Holds (made s place old) old new n) where

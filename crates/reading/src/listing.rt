@@ -5,6 +5,7 @@ ghost use mathlib.Core.Path.{_≡_};
 ghost use mathlib.Core.List.{[], _∷_, _++_};
 ghost use Prim.Native.Nat.{_+_, _^_, _<_, _≤_};
 ghost use lib.ListN.{length, drop};
+ghost use Rattle.answers.specs.code.Numbers.{asNumber};
 ghost use Rattle.streams.specs.code.Scan.{outside, scan};
 ghost use Rattle.messages.specs.Judge.{judge};
 ghost use Rattle.reading.specs.code.Rooms.{width, fitting, reportsInside, made, Holds, Makes};
@@ -17,7 +18,7 @@ pub struct Listed {
 }
 
 // How many numbers a report has.
-pub const WIDTH: usize = 4;
+pub const WIDTH: usize = 5;
 
 // One call makes at most so many reports, which bounds how many calls of the two states are under way.
 pub const MOST: usize = 8;
@@ -25,15 +26,16 @@ pub const MOST: usize = 8;
 // The room for them.
 const ROOM: usize = MOST * WIDTH;
 
-// A report's numbers. Its caller has seen that they fit.
+// A report's numbers, the value in two's complement. Its caller has seen that they fit.
 fn put_report(r: Report, room: &mut [usize])
     requires { ⌜ width ≤ length (now room) ⌝ }
-    ensures { λ _. ⌜ now (room .exit) ≡ (r .start ∷ r .end ∷ r .outcome .answer ∷ r .outcome .detail ∷ []) ++ drop width (now (room .entry)) ⌝ }
+    ensures { λ _. ⌜ now (room .exit) ≡ (r .start ∷ r .end ∷ r .outcome .answer ∷ r .outcome .detail ∷ asNumber (r .outcome .value) ∷ []) ++ drop width (now (room .entry)) ⌝ }
 {
     room[0] = r.start;
     room[1] = r.end;
     room[2] = r.outcome.answer as usize;
     room[3] = r.outcome.detail;
+    room[4] = answers::as_number(r.outcome.value);
 }
 
 // Outside a message: on to the next F0H, if there is room for one more report.

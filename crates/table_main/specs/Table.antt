@@ -3,26 +3,20 @@ use mathlib.Core.List.{List, [], _++_}
 use mathlib.Core.Option.{Option, none, some}
 use Prim.Native.Nat.{ℕ, zero, suc, _≤_}
 use lib.ListN.{length}
-use Rattle.text.specs.Text.{ascii, followed}
+use Rattle.text.specs.Text.{ascii, followed, signed}
 use Rattle.fields.specs.Fields.{size, leastAt, greatestAt, valueAt, parameterOf}
-use Rattle.ranges.specs.Values.{Value, plus, minus}
 
 -- A parameter, or a dash where there is none, and a space behind it.
 abbrev pub parameterText : Option ℕ → List ℕ
 parameterText (some n) = followed n 0x20
 parameterText none = ascii "- "
 
--- A value with its sign, and the byte behind it.
-abbrev pub valueText : Value → ℕ → List ℕ
-valueText (plus n) b = followed n b
-valueText (minus n) b = ascii "-" ++ followed n b
-
 unfoldable pub tableRow : ℕ → List ℕ
 tableRow k =
     followed k 0x20
     ++ (parameterText (parameterOf k)
-    ++ (valueText (valueAt k (leastAt k)) 0x20
-    ++ valueText (valueAt k (greatestAt k)) 0x0A))
+    ++ (signed (valueAt k (leastAt k)) 0x20
+    ++ signed (valueAt k (greatestAt k)) 0x0A))
 
 -- The lines of n places from place k on.
 unfoldable pub tableRows : ℕ → ℕ → List ℕ

@@ -4,10 +4,9 @@ use fields::BytePlace;
 use fields::FoundParameter;
 use libc::STDOUT_FILENO;
 ghost use Rattle.io.specs.Counts.{Counts};
-ghost use Rattle.text.specs.Text.{Puts};
-ghost use Rattle.fields.specs.Fields.{parameterOf};
-ghost use Rattle.ranges.specs.Values.{valueOf};
-ghost use Rattle.table_main.specs.Table.{parameterText, valueText, tableRow, tableText};
+ghost use Rattle.text.specs.Text.{signed, Puts};
+ghost use Rattle.fields.specs.Fields.{valueAt, parameterOf};
+ghost use Rattle.table_main.specs.Table.{parameterText, tableRow, tableText};
 
 // Bytes of a patch.
 const PLACES: u8 = fields::PLACES as u8;
@@ -23,15 +22,12 @@ fn put_parameter(room: &mut [u8], at: usize, place: u8) -> usize
     text::put(room, at, b"- ")
 }
 
-// A stored value with its sign, and the byte behind it.
-fn put_value(room: &mut [u8], at: usize, b: u8, behind: u8) -> usize
-    ensures { λ r. ⌜ Puts (valueText (valueOf b) behind) (now (room .entry)) at (now (room .exit)) r ⌝ }
+// The value of a byte at a place, with its sign, and the byte behind it.
+fn put_value(room: &mut [u8], at: usize, place: u8, b: u8, behind: u8) -> usize
+    ensures { λ r. ⌜ Puts (signed (valueAt place b) behind) (now (room .entry)) at (now (room .exit)) r ⌝ }
 {
-    if b < 128 {
-        return text::put_number(room, at, b as usize, behind);
-    }
-    let sign = text::put(room, at, b"-");
-    text::put_number(room, sign, 256 - b as usize, behind)
+    let value = fields::value_at(BytePlace(place), b);
+    text::put_signed(room, at, answers::as_number(value), behind)
 }
 
 // A place's line.
@@ -40,8 +36,20 @@ fn put_field(room: &mut [u8], at: usize, place: u8) -> usize
 {
     let number = text::put_number(room, at, place as usize, b' ');
     let parameter = put_parameter(room, number, place);
-    let least = put_value(room, parameter, fields::least_of(BytePlace(place)), b' ');
-    put_value(room, least, fields::greatest_of(BytePlace(place)), b'\n')
+    let least = put_value(
+        room,
+        parameter,
+        place,
+        fields::least_of(BytePlace(place)),
+        b' ',
+    );
+    put_value(
+        room,
+        least,
+        place,
+        fields::greatest_of(BytePlace(place)),
+        b'\n',
+    )
 }
 
 // The lines of all places; answers how many bytes they take.

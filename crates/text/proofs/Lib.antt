@@ -1,3 +1,3 @@
 pub mod Digits
 pub mod Puts
-pub mod Rows
+pub mod Spaced

@@ -1,4 +1,4 @@
--- Text in ASCII: words, numbers in decimal, rows of numbers; and text put into lent room.
+-- Text in ASCII: words, numbers in decimal with and without a sign; and text put into lent room.
 use mathlib.Core.Path.{_≡_}
 use mathlib.Core.Bool.{cond}
 use mathlib.Core.List.{List, [], _∷_, _++_}
@@ -6,6 +6,7 @@ use Prim.Native.Char.{code}
 use Prim.Native.Nat.{ℕ, zero, suc, _+_, _-_, _/_, _%_}
 use Prim.Native.String.{String, [] as no-letter, _∷_ as letter}
 use lib.Dec.{ltb}
+use lib.IntN.{ℤ, pos, negsuc}
 use lib.ListN.{length, take, drop}
 
 -- The bytes of a word.
@@ -26,15 +27,15 @@ decimal n = digitsOf 20 n
 abbrev pub followed : ℕ → ℕ → List ℕ
 followed n b = decimal n ++ (b ∷ [])
 
--- What stands behind a number of a row: a space where more numbers follow it, else a newline.
-abbrev pub separator : List ℕ → ℕ
-separator [] = 0x0A
-separator (n ∷ ns) = 0x20
+-- A number with its sign, and the byte behind it.
+abbrev pub signed : ℤ → ℕ → List ℕ
+signed (pos n) b = followed n b
+signed (negsuc n) b = ascii "-" ++ followed (suc n) b
 
--- A row of numbers.
-unfoldable pub row : List ℕ → List ℕ
-row [] = []
-row (n ∷ ns) = followed n (separator ns) ++ row ns
+-- Numbers, a space behind each.
+unfoldable pub spaced : List ℕ → List ℕ
+spaced [] = []
+spaced (n ∷ ns) = followed n 0x20 ++ spaced ns
 
 -- As many of the bytes w as a room has place for from place `at` on.
 abbrev pub fitting : List ℕ → List ℕ → ℕ → List ℕ

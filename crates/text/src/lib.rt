@@ -1,11 +1,15 @@
-// Text in ASCII, put into lent room from a place on: bytes, numbers in decimal, rows of numbers. Each routine puts as many bytes as there is
+// Text in ASCII, put into lent room from a place on: bytes, numbers in decimal with and without a sign. Each routine puts as many bytes as there is
 // room for, keeps the room's other bytes, and answers the place behind what it put. So routines called one behind the other, each from the
 // place that the last one answered, put their texts joined.
 ghost use mathlib.Core.Path.{_≡_};
 ghost use mathlib.Core.List.{[], _∷_};
-ghost use Prim.Native.Nat.{_+_, _<_};
-ghost use lib.ListN.{length, drop};
-ghost use Rattle.text.specs.Text.{followed, separator, row, Puts};
+ghost use Rattle.answers.specs.code.Numbers.{ofNumber};
+ghost use Rattle.text.specs.Text.{followed, signed, spaced, Puts};
+
+// Numbers from here on stand for those below zero.
+const HALF: usize = 0x8000_0000_0000_0000;
+
+const LAST: usize = 0xFFFF_FFFF_FFFF_FFFF;
 
 // A byte.
 pub fn put_byte(room: &mut [u8], at: usize, b: u8) -> usize
@@ -41,25 +45,25 @@ pub fn put_number(room: &mut [u8], at: usize, n: usize, behind: u8) -> usize
     put_byte(room, end, behind)
 }
 
-// What stands behind the number at index i of a row: a space, or a newline behind the last.
-fn behind_number(numbers: &[usize], i: usize) -> u8
-    requires { ⌜ i < length (now numbers) ⌝ }
-    ensures { λ r. ⌜ r ≡ separator (drop (i + 1) (now (numbers .entry))) ⌝ }
+// A number with a sign, kept in two's complement of 64 bits, in decimal, and the byte behind it.
+pub fn put_signed(room: &mut [u8], at: usize, n: usize, behind: u8) -> usize
+    ensures { λ r. ⌜ Puts (signed (ofNumber n) behind) (now (room .entry)) at (now (room .exit)) r ⌝ }
 {
-    if i + 1 < numbers.len() {
-        return b' ';
+    if n < HALF {
+        return put_number(room, at, n, behind);
     }
-    b'\n'
+    let sign = put_byte(room, at, b'-');
+    put_number(room, sign, LAST - n + 1, behind)
 }
 
-// A row of numbers: a space behind each but the last, a newline behind that.
-pub fn put_row(room: &mut [u8], at: usize, numbers: &[usize]) -> usize
-    ensures { λ r. ⌜ Puts (row (now (numbers .entry))) (now (room .entry)) at (now (room .exit)) r ⌝ }
+// Numbers, a space behind each.
+pub fn put_spaced(room: &mut [u8], at: usize, numbers: &[usize]) -> usize
+    ensures { λ r. ⌜ Puts (spaced (now (numbers .entry))) (now (room .entry)) at (now (room .exit)) r ⌝ }
 {
     let mut end = at;
     let mut i: usize = 0;
     while i < numbers.len() {
-        end = put_number(room, end, numbers[i], behind_number(numbers, i));
+        end = put_number(room, end, numbers[i], b' ');
         i += 1;
     }
     end

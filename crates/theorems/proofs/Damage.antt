@@ -8,7 +8,7 @@ use mathlib.Core.Option.{none}
 use Prim.Native.Nat.{ℕ, zero, suc, _+_, _-_, _≤_, _<_}
 use native.Mathlib.Omega.{arith}
 use lib.Dec.{ltb}
-use lib.ListN.{length, take, drop, getD, length-append}
+use lib.ListN.{length, take, drop, getD, length-append, List·getD-append}
 use lib.Seq.{append-snoc, split-at, length-take-le, take-at, drop-at, getD-at}
 use borrow.Author.Tests.{ltb-true, ltb-false}
 use Rattle.answers.specs.declared.Outcome.{Outcome}
@@ -153,6 +153,12 @@ module _ (k : Dump) (filed : Filed (ofDump k)) (patch : k .packed ≡ aPatch) (n
 
   byte-there : (u : List ℕ) (x : ℕ) (v : List ℕ) (i : ℕ) → u ++ x ∷ v ≡ sent → length (front u) ≡ i → getD whole i 0 ≡ x
   byte-there u x v i e place = rw (dump-cut u (x ∷ v) e) (getD-at (front u) x (v ++ (0xF7 ∷ [])) 0 i place)
+
+  -- The byte before those cut out: the number where they are the first data bytes.
+  before-there : (i : ℕ) (m : List ℕ) (c : Cut i m) → getD whole (i - 1) 0 ≡ getD (n ∷ c .u) (length (c .u)) 0
+  before-there i m c =
+      let index : i - 1 ≡ suc (suc (suc (suc (length (c .u))))) = omega (arith, c .place) in
+      rw (dump-cut (c .u) (m ++ c .v) (c .sends), index) (List·getD-append (n ∷ c .u) _ 0 (length (c .u)) (omega arith))
 
   one-cut : (i : ℕ) → 5 ≤ i → i < 274 → Cut i (getD whole i 0 ∷ [])
   one-cut i h₁ h₂ =
@@ -421,7 +427,7 @@ module _ (k : Dump) (filed : Filed (ofDump k)) (patch : k .packed ≡ aPatch) (n
           let index : i - 5 ≡ length (c .u) = omega (arith, c .place) in
           let comes = two-replaced k filed patch p l out n (c .u) a b (c .v) y z (c .sends) (omega (arith, c .place)) (λ e. differ (e .0) (e .1)) in
           let d = other-data i (a ∷ b ∷ []) c (y ∷ z ∷ []) (kind-is dataByte y hy, (kind-is dataByte z hz, tt)) in
-          rw index (shows i a b c y z _ d (rw number at (comes .to)));
+          rw (index, before-there i (a ∷ b ∷ []) c) (shows i a b c y z _ d (rw number at (comes .to)));
     }
 
 -- What a writer takes, as the two need it.

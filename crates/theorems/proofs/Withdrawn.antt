@@ -31,7 +31,7 @@ use Rattle.messages.specs.Kinds.{maker, device, kindOf, countOf, lengthOf, isUn
 use Rattle.messages.specs.Judge.{byteAt, operandRows, lentOperandRows, bytesFrom, kindRows, recordOf, judge}
 use Rattle.messages.specs.Layout.{message, givenRows}
 use Rattle.messages.proofs.Numbers.{message-refusals, given-refusals, operand-refusals}
-use Rattle.reading.specs.code.Rooms.{made}
+use Rattle.reading.specs.code.Rooms.{width, most, made}
 use Rattle.writing.specs.Writing.{writing}
 use Rattle.theorems.specs.Answers.{found, walkRows}
 use Rattle.theorems.specs.Withdrawn.{Not14, NoInputGives14, formerShort, formerly, formerJudge, formerWriting, formerApplyingBus, Withdrawn}
@@ -55,7 +55,7 @@ unfolding made
 reported-made s place room =
     let from = stream.reportsFrom judge (length s) s place in
     rw (← (reports-of judge s .by-states place))
-    (all-take ReportNot14 8 (take (length room / 4) from) (all-take ReportNot14 (length room / 4) from (reported s place)))
+    (all-take ReportNot14 most (take (length room / width) from) (all-take ReportNot14 (length room / width) from (reported s place)))
 
 -- Nor is what is recorded of a message that is not 14: 13 may come of it.
 recorded : (f e : ℕ) (v : Verdict) (lent : List ℕ) → Not14 (outcomeOf v) → Not14 (stream.readInto f e v lent .result .outcome)

@@ -5,7 +5,7 @@ use Prim.Native.Nat.{ℕ}
 use lib.ListN.{getD, set, replicate}
 use Rattle.answers.specs.declared.Outcome.{Outcome}
 use Rattle.answers.specs.Lists.{All}
-use Rattle.answers.specs.Table.{Verdict, refused, outcome}
+use Rattle.answers.specs.Table.{Verdict, refused, outcome, outcomeAt}
 use Rattle.answers.specs.Effect.{Effect}
 use Rattle.fields.specs.Fields.{size}
 use Rattle.names.specs.Names.{naming}
@@ -85,16 +85,16 @@ starred =
     -- 06H 15H 7FH: byte 26 is 127.
     gives (asRead (ofShort remoteEdit) (edit 0x15 0x7F)) (recordFor (ofShort remoteEdit) (edit 0x15 0x7F) []) ∷
     gives (applying 0x15 0x7F P) (effect (outcome 0 0) (set P 26 127)) ∷
-    -- 06H 0CH 60H: byte 19 is E0H. 0CH 5FH: 11 at 19.
+    -- 06H 0CH 60H: byte 19 is E0H. 0CH 5FH: 11 at 19; it would store DFH, -33 (02 (vi)).
     gives (asRead (ofShort remoteEdit) (edit 0x0C 0x60)) (recordFor (ofShort remoteEdit) (edit 0x0C 0x60) []) ∷
     gives (applying 0x0C 0x60 P) (effect (outcome 0 0) (set P 19 0xE0)) ∷
-    gives (asRead (ofShort remoteEdit) (edit 0x0C 0x5F)) (refused (outcome 11 19)) ∷
-    gives (asWritten (ofShort remoteEdit) (edit 0x0C 0x5F)) (effect (outcome 11 19) room) ∷
-    gives (applying 0x0C 0x5F P) (effect (outcome 11 19) P) ∷
-    -- 06H 00H 40H: 11 at 9.
-    gives (asRead (ofShort remoteEdit) (edit 0x00 0x40)) (refused (outcome 11 9)) ∷
-    gives (asWritten (ofShort remoteEdit) (edit 0x00 0x40)) (effect (outcome 11 9) room) ∷
-    gives (applying 0x00 0x40 P) (effect (outcome 11 9) P) ∷
+    gives (asRead (ofShort remoteEdit) (edit 0x0C 0x5F)) (refused (outcomeAt 11 19 (minus 33))) ∷
+    gives (asWritten (ofShort remoteEdit) (edit 0x0C 0x5F)) (effect (outcomeAt 11 19 (minus 33)) room) ∷
+    gives (applying 0x0C 0x5F P) (effect (outcomeAt 11 19 (minus 33)) P) ∷
+    -- 06H 00H 40H: 11 at 9; it would store C0H, in a field without a sign 192.
+    gives (asRead (ofShort remoteEdit) (edit 0x00 0x40)) (refused (outcomeAt 11 9 (plus 192))) ∷
+    gives (asWritten (ofShort remoteEdit) (edit 0x00 0x40)) (effect (outcomeAt 11 9 (plus 192)) room) ∷
+    gives (applying 0x00 0x40 P) (effect (outcomeAt 11 9 (plus 192)) P) ∷
     -- Parameter 39: 8, whatever the value.
     gives {A = ℕ → Verdict} (λ (v : ℕ). asRead (ofShort remoteEdit) (edit 39 v)) (λ (v : ℕ). refused (outcome 8 0)) ∷
     gives {A = ℕ → Effect Outcome} (λ (v : ℕ). asWritten (ofShort remoteEdit) (edit 39 v)) (λ (v : ℕ). effect (outcome 8 0) room) ∷

@@ -20,7 +20,7 @@ pub record Slips (before d behind : List ℕ) : Type 0 where
       → Shows before d (damaged (exchange i) d) behind (exchangedRefusal (i - 5) b)
   -- two neighbouring data bytes, the two nibbles of one packed byte among them, replaced by values below 80H, not both by themselves
   pub replaced : (i y z : ℕ) → 5 ≤ i → suc i < 273 → y < 0x80 → z < 0x80 → let a = getD d i 0 in let b = getD d (suc i) 0 in (y ≡ a → z ≡ b → ⊥)
-      → Shows before d (damaged (replaceTwo i y z) d) behind (replacedRefusal (i - 5) a b y z)
+      → Shows before d (damaged (replaceTwo i y z) d) behind (replacedRefusal (i - 5) (getD d (i - 1) 0) a b y z)
 
 abbrev pub SlippedNeighbours : Type 0
 SlippedNeighbours = EveryPatchDump (λ d v. (before behind : List ℕ) → Slips before d behind)

@@ -9,7 +9,7 @@ use native.Mathlib.Numerals.{add-one}
 use lib.ListN.{length, take, drop, length-append, length-drop}
 use lib.Seq.{length-take-le, drop-drop}
 use borrow.Author.Tests.{le-ltb, eq-eqb}
-use Rattle.answers.specs.Table.{rowAt, done, first, outcome}
+use Rattle.answers.specs.Table.{rowAt, rowFound, Found, found, done, first, outcome}
 use Rattle.answers.specs.Effect.{Gives, toldAs, tested, written}
 use Rattle.answers.proofs.Effects.{written-fits, written-short}
 use Rattle.answers.proofs.Rows.{first-stopped, first-zero}
@@ -95,13 +95,13 @@ none-bad (suc n) k ps z = go (firstOut (take 134 ps)) (firstHalf (take 134 ps)) 
     behind : Option BankOutcome
     behind = firstBad n (suc k) (drop 134 ps)
 
-    from : Option ℕ → Option ℕ → Option BankOutcome
-    from a b = orLater k (first (rowAt 11 a ∷ rowAt 12 b ∷ []) (done 0 [] [])) behind
+    from : Option Found → Option ℕ → Option BankOutcome
+    from a b = orLater k (first (rowFound 11 a ∷ rowAt 12 b ∷ []) (done 0 [] [])) behind
 
-    go : (a b : Option ℕ) → bankTested (from a b) .outcome .answer ≡ 0 → (bankTested behind .outcome .answer ≡ 0 → behind ≡ none) → from a b ≡ none
+    go : (a : Option Found) (b : Option ℕ) → bankTested (from a b) .outcome .answer ≡ 0 → (bankTested behind .outcome .answer ≡ 0 → behind ≡ none) → from a b ≡ none
     go none none z rest = rest z
     go none (some d) z rest = absurd (omega arith)
-    go (some d) b z rest = absurd (omega arith)
+    go (some (found d v)) b z rest = absurd (omega arith)
 
 -- A bad patch refuses the bank, and every byte is kept.
 pub gives-bad : (f : Option BankOutcome) (bytes out : List ℕ) (r : BankOutcome) → r ≡ bankTested f → (r .outcome .answer ≡ 0 → ⊥)

@@ -3,7 +3,7 @@
 use super::Random;
 use crate::kinds::MASTER_LENGTH;
 use crate::patch::{half_used, BUSES};
-use crate::table::{allows, parameter_of, place_of, PATCH_LENGTH, ROWS};
+use crate::table::{allows, parameter_of, PATCH_LENGTH, ROWS};
 use crate::NAME_LENGTH;
 
 /// The places of a source and a destination; all buses have the ranges of the first.
@@ -38,7 +38,8 @@ pub fn good_byte(random: &mut Random, place: usize) -> u8 {
     }
 }
 
-/// A byte its field doesn't allow: just outside, 128 away, or any.
+/// A byte its field doesn't allow, below the least value or above the greatest: just outside, 128
+/// away, or any.
 pub fn bad_byte(random: &mut Random, place: usize) -> u8 {
     let row = &ROWS[place];
     loop {
@@ -52,6 +53,14 @@ pub fn bad_byte(random: &mut Random, place: usize) -> u8 {
             return byte;
         }
     }
+}
+
+/// A patch out of range at one place, each as often as the others, all else good.
+pub fn one_out_of_range_patch(random: &mut Random) -> [u8; PATCH_LENGTH] {
+    let mut patch = good_patch(random);
+    let place = random.below(PATCH_LENGTH);
+    patch[place] = bad_byte(random, place);
+    patch
 }
 
 /// A patch out of range at one to three places, all else good.
@@ -111,7 +120,8 @@ fn used_code(random: &mut Random, place: usize) -> u8 {
 /// A patch of the right length, with a fault of field, of bus, or both.
 pub fn bad_patch(random: &mut Random) -> [u8; PATCH_LENGTH] {
     match random.below(5) {
-        0 | 1 => out_of_range_patch(random),
+        0 => one_out_of_range_patch(random),
+        1 => out_of_range_patch(random),
         2 | 3 => half_used_patch(random),
         _ => {
             let mut patch = half_used_patch(random);
@@ -194,30 +204,44 @@ pub fn name(random: &mut Random) -> Vec<u8> {
     name
 }
 
-/// A remote edit that is allowed: parameter, value.
-pub fn good_edit(random: &mut Random) -> [u8; 2] {
+/// A parameter to ask about: mostly one that there is.
+pub fn parameter(random: &mut Random) -> u8 {
+    match random.below(8) {
+        0 => random.pick(&NO_PARAMETERS),
+        1 => random.byte(),
+        _ => field(random).0,
+    }
+}
+
+/// Numbers that are no parameter's.
+const NO_PARAMETERS: [u8; 8] = [39, 49, 89, 99, 100, 121, 127, 128];
+
+/// A parameter with its byte place.
+fn field(random: &mut Random) -> (u8, usize) {
     let place = random.byte_within(8..=103);
     let parameter = parameter_of(place).expect("bytes 8 to 103 have parameters");
+    (parameter, place.into())
+}
+
+/// A remote edit that is allowed: parameter, value.
+pub fn good_edit(random: &mut Random) -> [u8; 2] {
+    let (parameter, place) = field(random);
     // Seven bits are sent; all stored values of these fields come back from them.
-    [parameter, good_byte(random, place.into()) & 0x7F]
+    [parameter, good_byte(random, place) & 0x7F]
 }
 
 /// A remote edit as handed to a routine: any two bytes, with a liking for the edges.
 pub fn edit(random: &mut Random) -> [u8; 2] {
     match random.below(6) {
-        0 => [
-            random.pick(&[39, 49, 89, 99, 100, 121, 127, 128]),
-            random.byte(),
-        ],
+        0 => [random.pick(&NO_PARAMETERS), random.byte()],
         1 => [random.byte(), random.byte()],
         2 => {
             let [parameter, value] = good_edit(random);
             [parameter, value | 0x80]
         }
         3 => {
-            let [parameter, _] = good_edit(random);
-            let place = place_of(parameter).expect("a good edit has a place");
-            [parameter, bad_byte(random, place.into()) & 0x7F]
+            let (parameter, place) = field(random);
+            [parameter, bad_byte(random, place) & 0x7F]
         }
         _ => good_edit(random),
     }

@@ -92,15 +92,18 @@ pub(super) fn good_message(random: &mut Random, out: &mut Vec<u8>) {
     random.pick(&KINDS)(random, out);
 }
 
-/// A few dumps numbered from 0, sometimes with the master behind them.
+/// A few dumps numbered from 0, sometimes one of them with a byte out of range, sometimes with the
+/// master behind them.
 pub(super) fn bank(random: &mut Random, out: &mut Vec<u8>) {
-    for number in 0..random.byte_within(1..=6) {
-        dump(
-            opcode::SINGLE_PATCH,
-            number,
-            &inputs::good_patch(random),
-            out,
-        );
+    let count = random.byte_within(1..=6);
+    let bad = random.one_in(3).then(|| random.byte_within(0..=count - 1));
+    for number in 0..count {
+        let patch = if bad == Some(number) {
+            inputs::one_out_of_range_patch(random)
+        } else {
+            inputs::good_patch(random)
+        };
+        dump(opcode::SINGLE_PATCH, number, &patch, out);
     }
     if random.one_in(2) {
         master(random, out);
@@ -131,8 +134,19 @@ pub(super) fn bad_number(random: &mut Random, out: &mut Vec<u8>) {
     }
 }
 
-/// A patch dump with the right sum and a field out of range.
+/// A patch dump with the right sum and fields out of range, or a few with one byte so in each.
 pub(super) fn out_of_range(random: &mut Random, out: &mut Vec<u8>) {
+    if random.one_in(2) {
+        return fields_out_of_range(random, out);
+    }
+    for _ in 0..random.within(1..=6) {
+        let patch = inputs::one_out_of_range_patch(random);
+        patch_dump_of(random, &patch, out);
+    }
+}
+
+/// A patch dump with the right sum and one to three fields out of range.
+fn fields_out_of_range(random: &mut Random, out: &mut Vec<u8>) {
     let patch = inputs::out_of_range_patch(random);
     patch_dump_of(random, &patch, out);
 }
@@ -312,7 +326,7 @@ pub(super) fn real_time_inside(random: &mut Random, out: &mut Vec<u8>) {
 pub(super) fn real_time_in_refused(random: &mut Random, out: &mut Vec<u8>) {
     const KINDS: [Piece; 9] = [
         bad_number,
-        out_of_range,
+        fields_out_of_range,
         half_used,
         wide_data,
         wrong_sum,

@@ -5,7 +5,8 @@ use reference::streams::damage::{damageable, Damage};
 use reference::streams::{inputs, stream, Random};
 use reference::{walk, write_edit_buffer, write_master, write_patch};
 
-use crate::kit::{bass, bus_message, glide, report, written, P};
+use crate::kit::{bass, bus_message, found, glide, report, reported, written, P};
+use crate::model;
 use crate::undamaged::Undamaged;
 
 /// Every single damage to a dump in a stream.
@@ -125,7 +126,8 @@ fn a_high_nibble_of_a_patch_moved_by_8() {
         for place in 0..134 {
             let mut damaged = dump.clone();
             damaged[6 + 2 * place] ^= 8;
-            assert_eq!(walk(&damaged, 0), report(0, 275, 11, place));
+            let moved = found(place, model::value(place, patch[place] ^ 0x80));
+            assert_eq!(walk(&damaged, 0), reported(0, 275, moved));
         }
     }
 }

@@ -6,8 +6,8 @@ use reference::{
     write_edit, Outcome,
 };
 
-use crate::kit::{bus_message, outcome};
-use crate::model;
+use crate::kit::{bus_message, edit_message, found, outcome, report_outcome};
+use crate::model::{self, Field};
 
 #[test]
 fn a_remote_edit_changes_its_own_byte() {
@@ -35,22 +35,18 @@ fn a_remote_edit_changes_its_own_byte() {
     }
 }
 
-fn expected_edit(fields: &[(Option<u8>, i32, i32)], parameter: u8, value: u8) -> Outcome {
+fn expected_edit(fields: &[Field], parameter: u8, value: u8) -> Outcome {
     let Some(place) = fields.iter().position(|field| field.0 == Some(parameter)) else {
         return outcome(8, 0);
     };
     if value > 127 {
         return outcome(8, 0);
     }
-    let signed = match i32::from(value) {
-        value @ 64.. if parameter != 21 => value - 128,
-        value => value,
-    };
-    let (_, least, greatest) = fields[place];
-    if (least..=greatest).contains(&signed) {
+    let stored = model::stored(parameter, value);
+    if model::allows(fields, place, stored) {
         outcome(0, 0)
     } else {
-        outcome(11, place)
+        found(place, model::value(place, stored))
     }
 }
 
@@ -83,9 +79,9 @@ fn expected_bus_edit(bus: u8, source: u8, amount: u8, destination: u8) -> Outcom
     if bus > 9 || amount > 127 {
         outcome(8, 0)
     } else if source > 20 {
-        outcome(11, 104 + 3 * number)
+        found(104 + 3 * number, source.into())
     } else if destination > 32 {
-        outcome(11, 106 + 3 * number)
+        found(106 + 3 * number, destination.into())
     } else if (source == 0) != (destination == 0) {
         outcome(12, number)
     } else {
@@ -101,36 +97,28 @@ fn reading_writing_and_applying_an_edit_answer_alike() {
         let mut out = [0; 9];
 
         let [parameter, value] = inputs::edit(&mut random).map(|byte| byte & 0x7F);
-        let message = [0xF0, 0x10, 0x06, 0x06, parameter, value, 0xF7];
-        let read = walk(&message, 0);
+        let read = walk(&edit_message([parameter, value]), 0);
         let wrote = write_edit(parameter, value, &mut out);
         let applied = apply_edit(&mut patch, parameter, value);
-        alike(read.answer, read.detail, 6, wrote, 7, applied);
+        alike(report_outcome(&read), 6, wrote, 7, applied);
 
         let bytes = inputs::bus_edit(&mut random).map(|byte| byte & 0x7F);
         let [bus, source, amount, destination] = bytes;
         let read = walk(&bus_message(bytes), 0);
         let wrote = write_bus_edit(bus, source, amount, destination, &mut out);
         let applied = apply_bus_edit(&mut patch, bus, source, amount, destination);
-        alike(read.answer, read.detail, 11, wrote, 9, applied);
+        alike(report_outcome(&read), 11, wrote, 9, applied);
     }
 }
 
-fn alike(
-    answer: u8,
-    detail: usize,
-    opcode: usize,
-    wrote: Outcome,
-    length: usize,
-    applied: Outcome,
-) {
-    if answer == 0 {
-        assert_eq!(detail, opcode);
+fn alike(read: Outcome, opcode: usize, wrote: Outcome, length: usize, applied: Outcome) {
+    if read.answer == 0 {
+        assert_eq!(read, outcome(0, opcode));
         assert_eq!(wrote, outcome(0, length));
         assert_eq!(applied, outcome(0, 0));
     } else {
-        assert_eq!(wrote, outcome(answer, detail));
-        assert_eq!(applied, outcome(answer, detail));
+        assert_eq!(wrote, read);
+        assert_eq!(applied, read);
     }
 }
 

@@ -2,41 +2,31 @@
 
 use reference::{
     apply_bus_edit, apply_edit, extend, listing, place_of, read, set_name, show_name, test_patch,
-    walk, write_bus_edit, write_edit, write_patch,
+    walk, write_bus_edit, write_edit, write_patch, Outcome,
 };
 
-use crate::kit::{bus_message, outcome, report, written, P};
-
-/// P with these bytes at a place.
-fn p_with(place: usize, bytes: &[u8]) -> [u8; 134] {
-    let mut patch = P;
-    patch[place..][..bytes.len()].copy_from_slice(bytes);
-    patch
-}
+use crate::kit::{
+    bus_message, edit_message, found, outcome, p_with, reading_outcome, report, reported, written,
+    P,
+};
 
 /// Reading, writing and applying a remote edit give the same refusal.
-fn refused_edit(parameter: u8, value: u8, answer: u8, detail: usize) {
-    let message = [0xF0, 0x10, 0x06, 0x06, parameter, value, 0xF7];
-    assert_eq!(walk(&message, 0), report(0, 7, answer, detail));
+fn refused_edit(parameter: u8, value: u8, refusal: Outcome) {
+    let message = edit_message([parameter, value]);
+    assert_eq!(walk(&message, 0), reported(0, 7, refusal));
     let mut out = [0xA5; 7];
-    assert_eq!(
-        write_edit(parameter, value, &mut out),
-        outcome(answer, detail)
-    );
+    assert_eq!(write_edit(parameter, value, &mut out), refusal);
     assert_eq!(out, [0xA5; 7]);
     let mut patch = P;
-    assert_eq!(
-        apply_edit(&mut patch, parameter, value),
-        outcome(answer, detail)
-    );
+    assert_eq!(apply_edit(&mut patch, parameter, value), refusal);
     assert_eq!(patch, P);
 }
 
 /// Reading, writing and applying a remote edit are done, and one byte of P becomes this.
 fn done_edit(parameter: u8, value: u8, place: usize, byte: u8) {
-    let message = [0xF0, 0x10, 0x06, 0x06, parameter, value, 0xF7];
+    let message = edit_message([parameter, value]);
     let reading = read(&message, 0, &mut []);
-    assert_eq!((reading.answer, reading.detail), (0, 6));
+    assert_eq!(reading_outcome(&reading), outcome(0, 6));
     assert_eq!(reading.bytes, [parameter, value, 0, 0]);
     assert_eq!(written(|out| write_edit(parameter, value, out)), message);
     let mut patch = P;
@@ -45,19 +35,19 @@ fn done_edit(parameter: u8, value: u8, place: usize, byte: u8) {
 }
 
 /// Reading, writing and applying a matrix modulation edit give the same refusal.
-fn refused_bus_edit(bytes: [u8; 4], answer: u8, detail: usize) {
+fn refused_bus_edit(bytes: [u8; 4], refusal: Outcome) {
     let [bus, source, amount, destination] = bytes;
-    assert_eq!(walk(&bus_message(bytes), 0), report(0, 9, answer, detail));
+    assert_eq!(walk(&bus_message(bytes), 0), reported(0, 9, refusal));
     let mut out = [0xA5; 9];
     assert_eq!(
         write_bus_edit(bus, source, amount, destination, &mut out),
-        outcome(answer, detail)
+        refusal
     );
     assert_eq!(out, [0xA5; 9]);
     let mut patch = P;
     assert_eq!(
         apply_bus_edit(&mut patch, bus, source, amount, destination),
-        outcome(answer, detail)
+        refusal
     );
     assert_eq!(patch, P);
 }
@@ -71,7 +61,7 @@ fn done_bus_edit(bytes: [u8; 4], place: usize, stored: [u8; 3]) {
         message
     );
     let reading = read(&message, 0, &mut []);
-    assert_eq!((reading.answer, reading.detail), (0, 0x0B));
+    assert_eq!(reading_outcome(&reading), outcome(0, 0x0B));
     assert_eq!(reading.bytes, bytes);
     let mut patch = P;
     assert_eq!(
@@ -126,16 +116,16 @@ fn vcf_frequency_is_not_extended() {
 #[test]
 fn detune() {
     done_edit(0x0C, 0x60, 19, 0xE0);
-    refused_edit(0x0C, 0x5F, 11, 19);
+    refused_edit(0x0C, 0x5F, found(19, -33));
     done_edit(0x0C, 0x1F, 19, 31);
-    refused_edit(0x0C, 0x20, 11, 19);
+    refused_edit(0x0C, 0x20, found(19, 32));
 }
 
 #[test]
 fn dco_1_frequency_and_parameter_39() {
-    refused_edit(0x00, 0x40, 11, 9);
+    refused_edit(0x00, 0x40, found(9, 192));
     for value in [0x00, 0x40, 0x7F] {
-        refused_edit(39, value, 8, 0);
+        refused_edit(39, value, outcome(8, 0));
     }
 }
 
@@ -143,11 +133,11 @@ fn dco_1_frequency_and_parameter_39() {
 fn bus_9() {
     done_bus_edit([9, 20, 0x40, 31], 131, [0x14, 0xC0, 0x1F]);
     done_bus_edit([9, 20, 0x40, 32], 131, [0x14, 0xC0, 0x20]);
-    refused_bus_edit([9, 20, 0x40, 33], 11, 133);
+    refused_bus_edit([9, 20, 0x40, 33], found(133, 33));
     for (destination, tested) in [
         (31, outcome(0, 0)),
         (32, outcome(0, 0)),
-        (33, outcome(11, 133)),
+        (33, found(133, 33)),
     ] {
         let patch = p_with(131, &[0x14, 0xC0, destination]);
         assert_eq!(test_patch(&patch), tested);
@@ -156,15 +146,15 @@ fn bus_9() {
 
 #[test]
 fn bus_0_half_used() {
-    refused_bus_edit([0, 1, 0, 0], 12, 0);
-    refused_bus_edit([0, 1, 0x40, 0], 12, 0);
+    refused_bus_edit([0, 1, 0, 0], outcome(12, 0));
+    refused_bus_edit([0, 1, 0x40, 0], outcome(12, 0));
 }
 
 #[test]
 fn patch_numbers() {
     let mut dump = written(|out| write_patch(99, &P, out));
     let reading = read(&dump, 0, &mut [0; 134]);
-    assert_eq!((reading.answer, reading.detail), (0, 1));
+    assert_eq!(reading_outcome(&reading), outcome(0, 1));
     assert_eq!(reading.bytes, [99, 0, 0, 0]);
     dump[4] = 100;
     assert_eq!(walk(&dump, 0), report(0, 275, 8, 0));
@@ -174,12 +164,12 @@ fn patch_numbers() {
 #[test]
 fn all_zeros() {
     let zeros = [0; 134];
-    assert_eq!(test_patch(&zeros), outcome(11, 76));
-    assert_eq!(write_patch(0, &zeros, &mut [0; 275]), outcome(11, 76));
+    assert_eq!(test_patch(&zeros), found(76, 0));
+    assert_eq!(write_patch(0, &zeros, &mut [0; 275]), found(76, 0));
     let mut dump = [0; 275];
     dump[..4].copy_from_slice(&[0xF0, 0x10, 0x06, 0x01]);
     dump[274] = 0xF7;
-    assert_eq!(walk(&dump, 0), report(0, 275, 11, 76));
+    assert_eq!(walk(&dump, 0), reported(0, 275, found(76, 0)));
 }
 
 #[test]
@@ -196,10 +186,10 @@ fn the_whole_listing() {
         0x41, 0xF0, 0xF7, 0xF0, 0x10, 0x06, 0x06, 0x15, 0x7F, 0xF7, 0xF0,
     ];
     let expected = "\
-start end answer detail
-1 3 4 0
-3 10 0 6
-10 11 2 0
+start end answer detail value
+1 3 4 0 0
+3 10 0 6 0
+10 11 2 0 0
 messages 3
 ";
     assert_eq!(String::from_utf8(listing(&input)).unwrap(), expected);

@@ -8,14 +8,14 @@ use crate::kit::report;
 fn inputs_of_one_byte_repeated() {
     for byte in [0x00, 0xF7, 0xFE] {
         let text = listing(&vec![byte; 65_536]);
-        assert_eq!(text, b"start end answer detail\nmessages 0\n");
+        assert_eq!(text, b"start end answer detail value\nmessages 0\n");
     }
     let starts = vec![0xF0; 65_536];
-    let mut expected = String::from("start end answer detail\n");
+    let mut expected = String::from("start end answer detail value\n");
     for place in 0..65_535 {
-        expected += &format!("{place} {} 3 0\n", place + 1);
+        expected += &format!("{place} {} 3 0 0\n", place + 1);
     }
-    expected += "65535 65536 2 0\nmessages 65536\n";
+    expected += "65535 65536 2 0 0\nmessages 65536\n";
     assert_eq!(String::from_utf8(listing(&starts)).unwrap(), expected);
 }
 
@@ -26,12 +26,12 @@ fn a_start_then_real_time_only() {
         input[0] = 0xF0;
         assert_eq!(
             listing(&input),
-            b"start end answer detail\n0 65536 2 0\nmessages 1\n"
+            b"start end answer detail value\n0 65536 2 0 0\nmessages 1\n"
         );
         input[65_535] = 0xF7;
         assert_eq!(
             listing(&input),
-            b"start end answer detail\n0 65536 4 0\nmessages 1\n"
+            b"start end answer detail value\n0 65536 4 0 0\nmessages 1\n"
         );
     }
 }
@@ -40,11 +40,11 @@ fn a_start_then_real_time_only() {
 fn lengths_around_the_limit() {
     assert_eq!(
         listing(&[0; 65_535]),
-        b"start end answer detail\nmessages 0\n"
+        b"start end answer detail value\nmessages 0\n"
     );
     assert_eq!(listing(&vec![0xF0; 65_537]), b"input too long\n");
     assert_eq!(listing(&vec![0x00; 1 << 20]), b"input too long\n");
-    assert_eq!(listing(&[]), b"start end answer detail\nmessages 0\n");
+    assert_eq!(listing(&[]), b"start end answer detail value\nmessages 0\n");
 }
 
 #[test]

@@ -9,6 +9,13 @@ pub const P: [u8; 134] = {
     patch
 };
 
+/// P with these bytes at a place.
+pub fn p_with(place: usize, bytes: &[u8]) -> [u8; 134] {
+    let mut patch = P;
+    patch[place..][..bytes.len()].copy_from_slice(bytes);
+    patch
+}
+
 /// P named `BASS 1  `.
 pub fn bass() -> [u8; 134] {
     let mut patch = P;
@@ -34,18 +41,61 @@ pub fn with_sum(patch: [u8; 134], sum: u8) -> [u8; 134] {
     patch
 }
 
-/// An answer with its detail.
+/// An answer other than 11, with its detail. The value is 0.
 pub const fn outcome(answer: u8, detail: usize) -> Outcome {
-    Outcome { answer, detail }
+    assert!(answer != 11);
+    Outcome {
+        answer,
+        detail,
+        value: 0,
+    }
 }
 
-/// A report written as document 01 prints it.
+/// 11 with the place and the value found there.
+pub const fn found(place: usize, value: i16) -> Outcome {
+    Outcome {
+        answer: 11,
+        detail: place,
+        value,
+    }
+}
+
+/// A report written as document 01 prints it, for an answer other than 11.
 pub const fn report(start: usize, end: usize, answer: u8, detail: usize) -> Report {
+    reported(start, end, outcome(answer, detail))
+}
+
+/// The report of a message with this answer.
+pub const fn reported(start: usize, end: usize, tested: Outcome) -> Report {
+    let Outcome {
+        answer,
+        detail,
+        value,
+    } = tested;
     Report {
         start,
         end,
         answer,
         detail,
+        value,
+    }
+}
+
+/// The answer that a report holds.
+pub const fn report_outcome(report: &Report) -> Outcome {
+    Outcome {
+        answer: report.answer,
+        detail: report.detail,
+        value: report.value,
+    }
+}
+
+/// The answer that a reading holds.
+pub const fn reading_outcome(reading: &Reading) -> Outcome {
+    Outcome {
+        answer: reading.answer,
+        detail: reading.detail,
+        value: reading.value,
     }
 }
 
@@ -56,6 +106,11 @@ pub fn dump(opcode: u8, second: u8, patch: &[u8; 134]) -> Vec<u8> {
     let sum: u32 = patch.iter().map(|&byte| u32::from(byte)).sum();
     message.extend([(sum % 128) as u8, 0xF7]);
     message
+}
+
+/// A remote edit's message: parameter, value.
+pub const fn edit_message([parameter, value]: [u8; 2]) -> [u8; 7] {
+    [0xF0, 0x10, 0x06, 0x06, parameter, value, 0xF7]
 }
 
 /// A matrix modulation edit's message: bus, source, amount, destination.
@@ -79,11 +134,19 @@ pub fn record(input: &[u8], place: usize) -> (Reading, Vec<u8>) {
 /// What a writer puts into a long enough output; it must be done.
 pub fn written(write: impl FnOnce(&mut [u8]) -> Outcome) -> Vec<u8> {
     let mut out = vec![0xA5; 400];
-    let Outcome { answer, detail } = write(&mut out);
-    assert_eq!(answer, 0);
+    let done = write(&mut out);
+    let detail = done.detail;
+    assert_eq!(done, outcome(0, detail));
     assert!(out[detail..].iter().all(|&byte| byte == 0xA5));
     out.truncate(detail);
     out
+}
+
+/// A writer refuses and keeps its output of this length.
+pub fn refuses(length: usize, refusal: Outcome, write: impl FnOnce(&mut [u8]) -> Outcome) {
+    let mut out = vec![0xA5; length];
+    assert_eq!(write(&mut out), refusal);
+    assert!(out.iter().all(|&byte| byte == 0xA5));
 }
 
 /// A message with real time in front of every byte but the first.

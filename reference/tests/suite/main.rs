@@ -3,6 +3,8 @@
 mod damage;
 mod editing;
 mod examples;
+mod fields;
+mod found;
 mod hostile;
 mod kit;
 mod model;

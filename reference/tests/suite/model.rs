@@ -1,5 +1,5 @@
-//! Document 01 once more, with document 02's destinations, as slowly and plainly as it can be said,
-//! to hold the quick code against.
+//! Document 01 once more, with document 02's destinations and values, as slowly and plainly as it
+//! can be said, to hold the quick code against.
 
 /// The condensed line of document 01 for bytes 8 to 85.
 const LINE: &str = "8:48:2 9:0:6 10:5:6 11:3:6 12:7:2 13:6:2 14:10:6 15:15:6 16:13:6 17:17:2 \
@@ -17,8 +17,11 @@ const AMOUNTS: [u8; 18] = [
 /// The last destination of Table 3, Portamento Time.
 const LAST_DESTINATION: u8 = 32;
 
-/// Parameter, least and greatest of all 134 places, as the papers tell them.
-pub fn fields() -> Vec<(Option<u8>, i32, i32)> {
+/// Parameter, least and greatest value of a byte place.
+pub type Field = (Option<u8>, i16, i16);
+
+/// The fields of all 134 places, as the papers tell them.
+pub fn fields() -> Vec<Field> {
     let mut fields = vec![(None, 0, 63); 8];
     for entry in LINE.split_whitespace() {
         let [places, parameters, range] = entry.split(':').collect::<Vec<_>>()[..] else {
@@ -38,7 +41,7 @@ pub fn fields() -> Vec<(Option<u8>, i32, i32)> {
     }
     fields.extend(AMOUNTS.map(|parameter| (Some(parameter), -64, 63)));
     for _ in 0..10 {
-        let destination = (None, 0, i32::from(LAST_DESTINATION));
+        let destination = (None, 0, i16::from(LAST_DESTINATION));
         fields.extend([(None, 0, 20), (None, -64, 63), destination]);
     }
     fields
@@ -50,20 +53,44 @@ fn span(text: &str) -> std::ops::RangeInclusive<u8> {
     first.parse().unwrap()..=last.parse().unwrap()
 }
 
-/// Start, end, answer and detail of every report.
-pub fn reports(input: &[u8]) -> Vec<(usize, usize, u8, usize)> {
+/// The places of fields with a sign: detune, the amounts, the amounts of the buses.
+pub fn has_sign(place: usize) -> bool {
+    place == 19 || (86..=103).contains(&place) || (0..10).any(|bus| place == 105 + 3 * bus)
+}
+
+/// The value of a byte stored at a place: with its sign where the field has one, else as it stands.
+pub fn value(place: usize, stored: u8) -> i16 {
+    let value = i16::from(stored);
+    if has_sign(place) && value >= 128 {
+        value - 256
+    } else {
+        value
+    }
+}
+
+/// Whether the range at a place has the value of a byte.
+pub fn allows(fields: &[Field], place: usize, stored: u8) -> bool {
+    let (_, least, greatest) = fields[place];
+    (least..=greatest).contains(&value(place, stored))
+}
+
+/// Answer, detail and value.
+type Judged = (u8, usize, i16);
+
+/// Start and end of every report, with its answer, detail and value.
+pub fn reports(input: &[u8]) -> Vec<(usize, usize, Judged)> {
     let fields = fields();
     let starts = (0..input.len()).filter(|&place| input[place] == 0xF0);
     starts.map(|start| one(&fields, input, start)).collect()
 }
 
-fn one(fields: &[(Option<u8>, i32, i32)], input: &[u8], start: usize) -> (usize, usize, u8, usize) {
+fn one(fields: &[Field], input: &[u8], start: usize) -> (usize, usize, Judged) {
     let mut place = start + 1;
     loop {
         match input.get(place) {
-            None => return (start, place, 2, 0),
+            None => return (start, place, (2, 0, 0)),
             Some(0xF7) => break,
-            Some(0x80..=0xF6) => return (start, place, 3, 0),
+            Some(0x80..=0xF6) => return (start, place, (3, 0, 0)),
             Some(_) => place += 1,
         }
     }
@@ -73,17 +100,16 @@ fn one(fields: &[(Option<u8>, i32, i32)], input: &[u8], start: usize) -> (usize,
         .copied()
         .filter(|&byte| byte < 0xF8)
         .collect();
-    let (answer, detail) = judge(fields, &message);
-    (start, end, answer, detail)
+    (start, end, judge(fields, &message))
 }
 
 /// The card from 4 on. The message is complete and has no real time.
-fn judge(fields: &[(Option<u8>, i32, i32)], message: &[u8]) -> (u8, usize) {
+fn judge(fields: &[Field], message: &[u8]) -> Judged {
     if message[1] != 0x10 {
-        return (4, 0);
+        return (4, 0, 0);
     }
     if message[2] != 0x06 {
-        return (5, 0);
+        return (5, 0, 0);
     }
     let opcode = message[3];
     let length = match opcode {
@@ -91,10 +117,10 @@ fn judge(fields: &[(Option<u8>, i32, i32)], message: &[u8]) -> (u8, usize) {
         0x03 => 351,
         0x06 => 7,
         0x0B => 9,
-        _ => return (6, 0),
+        _ => return (6, 0, 0),
     };
     if message.len() != length {
-        return (7, 0);
+        return (7, 0, 0);
     }
     let second = message[4];
     let place = fields.iter().position(|field| field.0 == Some(second));
@@ -106,82 +132,60 @@ fn judge(fields: &[(Option<u8>, i32, i32)], message: &[u8]) -> (u8, usize) {
         _ => second == 0,
     };
     if !allowed {
-        return (8, 0);
+        return (8, 0, 0);
     }
     let refusal = match opcode {
         0x06 => edit(fields, place.unwrap(), second, message[5]),
         0x0B => bus_edit(second, &message[5..8]),
         _ => dump(fields, opcode, &message[5..length - 2], message[length - 2]),
     };
-    refusal.unwrap_or((0, usize::from(opcode)))
+    refusal.unwrap_or((0, usize::from(opcode), 0))
 }
 
-/// Seven bits read with bit 6 as the sign.
-fn extended(value: u8) -> i32 {
-    if value < 64 {
-        i32::from(value)
+/// The byte that an edit of seven bits stores: from 64 on, bit 7 is set too. Parameter 21 is the
+/// one exception.
+pub fn stored(parameter: u8, value: u8) -> u8 {
+    if parameter == 21 || value < 64 {
+        value
     } else {
-        i32::from(value) - 128
+        value + 128
     }
 }
 
-fn edit(
-    fields: &[(Option<u8>, i32, i32)],
-    place: usize,
-    parameter: u8,
-    value: u8,
-) -> Option<(u8, usize)> {
-    let value = if parameter == 21 {
-        i32::from(value)
-    } else {
-        extended(value)
-    };
-    let (_, least, greatest) = fields[place];
-    (value < least || value > greatest).then_some((11, place))
+fn edit(fields: &[Field], place: usize, parameter: u8, sent: u8) -> Option<Judged> {
+    let stored = stored(parameter, sent);
+    (!allows(fields, place, stored)).then_some((11, place, value(place, stored)))
 }
 
-fn bus_edit(bus: u8, bytes: &[u8]) -> Option<(u8, usize)> {
+fn bus_edit(bus: u8, bytes: &[u8]) -> Option<Judged> {
     let bus = usize::from(bus);
     if bytes[0] > 20 {
-        return Some((11, 104 + 3 * bus));
+        return Some((11, 104 + 3 * bus, i16::from(bytes[0])));
     }
     if bytes[2] > LAST_DESTINATION {
-        return Some((11, 106 + 3 * bus));
+        return Some((11, 106 + 3 * bus, i16::from(bytes[2])));
     }
-    ((bytes[0] == 0) != (bytes[2] == 0)).then_some((12, bus))
+    ((bytes[0] == 0) != (bytes[2] == 0)).then_some((12, bus, 0))
 }
 
-fn dump(
-    fields: &[(Option<u8>, i32, i32)],
-    opcode: u8,
-    data: &[u8],
-    sum: u8,
-) -> Option<(u8, usize)> {
+fn dump(fields: &[Field], opcode: u8, data: &[u8], sum: u8) -> Option<Judged> {
     if let Some(index) = data.iter().position(|&nibble| nibble > 15) {
-        return Some((9, index));
+        return Some((9, index, 0));
     }
-    let packed: Vec<u32> = data
-        .chunks(2)
-        .map(|pair| u32::from(pair[0]) + 16 * u32::from(pair[1]))
-        .collect();
-    if packed.iter().sum::<u32>() % 128 != u32::from(sum) {
-        return Some((10, 0));
+    let packed: Vec<u8> = data.chunks(2).map(|pair| pair[0] + 16 * pair[1]).collect();
+    let total: u32 = packed.iter().map(|&byte| u32::from(byte)).sum();
+    if total % 128 != u32::from(sum) {
+        return Some((10, 0, 0));
     }
     if opcode == 0x03 {
         return None;
     }
-    for (place, &(_, least, greatest)) in fields.iter().enumerate() {
-        let stored = packed[place] as i32;
-        let value = if least < 0 && stored >= 128 {
-            stored - 256
-        } else {
-            stored
-        };
-        if value < least || value > greatest {
-            return Some((11, place));
+    for (place, &stored) in packed.iter().enumerate() {
+        if !allows(fields, place, stored) {
+            return Some((11, place, value(place, stored)));
         }
     }
     (0..10)
         .find(|bus| (packed[104 + 3 * bus] == 0) != (packed[106 + 3 * bus] == 0))
-        .map(|bus| (12, bus))
+        .map(|bus| (12, bus, 0))
 }

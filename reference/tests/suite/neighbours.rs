@@ -7,7 +7,10 @@ use reference::streams::damage::{damageable, low_nibble, Damage};
 use reference::streams::{inputs, stream, Random};
 use reference::{is_real_time, reports, show_name, walk, write_master, write_patch, Outcome};
 
-use crate::kit::{bass, glide, outcome, record, report, with_sum, written, P};
+use crate::kit::{
+    bass, found, glide, outcome, record, report, report_outcome, with_sum, written, P,
+};
+use crate::model;
 use crate::undamaged::{by_turns, dumps, placed, Undamaged, DATA};
 
 /// The refusal of unequal neighbours exchanged, the first of them at `index` in the data.
@@ -25,14 +28,14 @@ pub fn exchanged(index: usize, second: u8) -> Outcome {
     }
 }
 
-/// The refusal of two neighbouring data bytes, the first of them at `index`, replaced by values
-/// below 80H of which at least one is different.
+/// The refusal of two neighbouring bytes of a dump's data, the first of them at `index`, replaced
+/// by values below 80H of which at least one is different.
 ///
 /// 9 at the first value above 15. With two nibbles the sum moves as far as the low one and 16 times
 /// as far as the high one. That is a multiple of 128 only if the low one stays and the high one is
 /// moved by 8; otherwise 10. The high one's packed byte has then moved by 128, out of its range: 11
-/// at its place, whether the low one is of that byte or of the next.
-fn replaced(index: usize, old: [u8; 2], new: [u8; 2]) -> Outcome {
+/// at its place with its value, whether the low one is of that byte or of the next.
+fn replaced(data: &[u8], index: usize, new: [u8; 2]) -> Outcome {
     if new[0] > 15 {
         return outcome(9, index);
     }
@@ -44,8 +47,11 @@ fn replaced(index: usize, old: [u8; 2], new: [u8; 2]) -> Outcome {
     } else {
         (1, 0)
     };
+    let old = &data[index..index + 2];
     if new[low] == old[low] && new[high].abs_diff(old[high]) == 8 {
-        outcome(11, index / 2)
+        let place = index / 2;
+        let byte = data[2 * place] + 16 * data[2 * place + 1];
+        found(place, model::value(place, byte ^ 0x80))
     } else {
         outcome(10, 0)
     }
@@ -57,8 +63,8 @@ fn refusal(undamaged: &Undamaged, damage: Damage) -> Outcome {
     match damage {
         Damage::Exchange { at } => exchanged(index(at), undamaged.stream[at + 1]),
         Damage::ReplaceTwo { at, bytes } => {
-            let old = [undamaged.stream[at], undamaged.stream[at + 1]];
-            replaced(index(at), old, bytes)
+            let data = &undamaged.stream[undamaged.data()];
+            replaced(data, index(at), bytes)
         }
         _ => panic!("{damage:?}"),
     }
@@ -343,7 +349,7 @@ fn answered(master: &[u8], damage: Damage) -> Outcome {
     damage.apply(&mut damaged);
     let found = walk(&damaged, 0);
     assert_eq!((found.start, found.end), (0, 351));
-    outcome(found.answer, found.detail)
+    report_outcome(&found)
 }
 
 #[test]
@@ -455,17 +461,15 @@ fn sorts(dump: &[u8], damage: Damage) -> Vec<&'static str> {
             // Both are data.
             assert!((5..272).contains(&at));
             assert_ne!(dump[at..at + 2], bytes);
-            vec![
-                "two replaced",
-                sort_of_two(at - 5, &dump[at..at + 2], bytes),
-            ]
+            let data = &dump[5..273];
+            vec!["two replaced", sort_of_two(data, at - 5, bytes)]
         }
     }
 }
 
-/// What two bytes that replace others are.
-fn sort_of_two(index: usize, old: &[u8], new: [u8; 2]) -> &'static str {
-    let kept = replaced(index, [old[0], old[1]], new).answer == 11;
+/// What two bytes that replace others of the data are.
+fn sort_of_two(data: &[u8], index: usize, new: [u8; 2]) -> &'static str {
+    let kept = replaced(data, index, new).answer == 11;
     match new {
         _ if kept && index.is_multiple_of(2) => "sum kept",
         _ if kept => "sum kept across two packed bytes",

@@ -6,7 +6,10 @@ use reference::{
     write_bus_edit, write_edit_buffer, write_patch, BankOutcome, Outcome,
 };
 
-use crate::kit::{bus_message, dump, outcome, record, report, with_real_time, written, P};
+use crate::kit::{
+    bus_message, dump, found, outcome, reading_outcome, record, report, reported, with_real_time,
+    written, P,
+};
 
 /// The kinds of patch dump: opcode and the byte behind it.
 const DUMPS: [(u8, u8); 2] = [(0x01, 7), (0x0D, 0)];
@@ -22,7 +25,7 @@ fn with_bus(patch: [u8; 134], bus: u8, bytes: [u8; 3]) -> [u8; 134] {
 fn expected(bus: u8, source: u8, destination: u8) -> Outcome {
     let bus = usize::from(bus);
     if destination > 32 {
-        outcome(11, 106 + 3 * bus)
+        found(106 + 3 * bus, destination.into())
     } else if (source == 0) != (destination == 0) {
         outcome(12, bus)
     } else {
@@ -73,6 +76,7 @@ fn lent_patch(patch: &[u8; 134], tested: Outcome) {
     let bank = BankOutcome {
         answer: tested.answer,
         detail,
+        value: tested.value,
         place,
     };
     let mut out = [0xA5; 600];
@@ -104,21 +108,21 @@ fn dump_in_a_stream(opcode: u8, second: u8, patch: &[u8; 134], tested: Outcome) 
     let dump = dump(opcode, second, patch);
     let behind = [0xF0, 0x10, 0x06, 0x06, 0x15, 0x7F, 0xF7];
     let stream = [&[0x41, 0xF0][..], &dump, &behind].concat();
-    let (detail, bytes, filed) = match tested.answer {
-        0 => (opcode.into(), [second, 0, 0, 0], &patch[..]),
-        _ => (tested.detail, [0; 4], &[][..]),
+    let (judged, bytes, filed) = match tested.answer {
+        0 => (outcome(0, opcode.into()), [second, 0, 0, 0], &patch[..]),
+        _ => (tested, [0; 4], &[][..]),
     };
     let found: Vec<_> = reports(&stream).collect();
     assert_eq!(
         found,
         [
             report(1, 2, 3, 0),
-            report(2, 277, tested.answer, detail),
+            reported(2, 277, judged),
             report(277, 284, 0, 6),
         ]
     );
     let (reading, packed) = record(&stream, 2);
-    assert_eq!((reading.answer, reading.detail), (tested.answer, detail));
+    assert_eq!(reading_outcome(&reading), judged);
     assert_eq!(reading.bytes, bytes);
     assert_eq!(packed, filed);
 }
@@ -129,11 +133,11 @@ fn edit(bytes: [u8; 4], patch: &[u8; 134], tested: Outcome) {
     let message = bus_message(bytes);
     // A byte above 127 doesn't stand in a message.
     if destination <= 127 {
-        let detail = match tested.answer {
-            0 => 0x0B,
-            _ => tested.detail,
+        let judged = match tested.answer {
+            0 => outcome(0, 0x0B),
+            _ => tested,
         };
-        assert_eq!(walk(&message, 0), report(0, 9, tested.answer, detail));
+        assert_eq!(walk(&message, 0), reported(0, 9, judged));
     }
     let mut out = [0xA5; 9];
     let wrote = write_bus_edit(bus, source, amount, destination, &mut out);
@@ -168,7 +172,7 @@ fn a_dump_that_routes_a_lever_to_portamento_time() {
             let dump = dump(opcode, second, &patch);
             for received in [dump.clone(), with_real_time(&dump)] {
                 let (reading, packed) = record(&received, 0);
-                assert_eq!((reading.answer, reading.detail), (0, opcode.into()));
+                assert_eq!(reading_outcome(&reading), outcome(0, opcode.into()));
                 assert_eq!(packed, patch);
                 let again = written(|out| match opcode {
                     0x01 => write_patch(reading.bytes[0], &packed, out),

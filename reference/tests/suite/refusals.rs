@@ -5,9 +5,9 @@ use reference::{
     write_bus_edit, write_edit, write_edit_buffer, write_master, write_patch, BankOutcome, Outcome,
 };
 
-use crate::kit::{dump, outcome, report, P};
+use crate::kit::{dump, found, outcome, reading_outcome, refuses, report, reported, P};
 
-/// P with a field out of range at 100 and 9, and buses 7 and 3 half used.
+/// P with a field out of range at 100 and 9, each 64, and buses 7 and 3 half used.
 fn twice_bad() -> [u8; 134] {
     let mut patch = half_used();
     patch[100] = 0x40;
@@ -28,7 +28,7 @@ fn a_patch() {
     for length in [0, 1, 133, 135, 268] {
         assert_eq!(test_patch(&vec![0xFF; length]), outcome(7, 0));
     }
-    assert_eq!(test_patch(&twice_bad()), outcome(11, 9));
+    assert_eq!(test_patch(&twice_bad()), found(9, 64));
     assert_eq!(test_patch(&half_used()), outcome(12, 3));
     assert_eq!(test_patch(&P), outcome(0, 0));
 }
@@ -45,46 +45,46 @@ fn a_message_with_every_fault_mended_in_turn() {
     message.insert(100, 0x00);
 
     let mut buffer = [0xA5; 133];
-    let mut expect = |message: &[u8], answer, detail| {
-        let end = match answer {
+    let mut expect = |message: &[u8], refusal: Outcome| {
+        let end = match refusal.answer {
             2 | 3 => 275,
             _ => message.len(),
         };
-        assert_eq!(walk(message, 0), report(0, end, answer, detail));
+        assert_eq!(walk(message, 0), reported(0, end, refusal));
         let reading = read(message, 0, &mut buffer);
-        assert_eq!((reading.answer, reading.detail), (answer, detail));
+        assert_eq!(reading_outcome(&reading), refusal);
         assert_eq!(reading.bytes, [0; 4]);
         assert_eq!(buffer, [0xA5; 133]);
     };
-    expect(&message[..275], 2, 0);
+    expect(&message[..275], outcome(2, 0));
     let end = message.pop().unwrap();
     message.push(0x90);
-    expect(&message, 3, 0);
+    expect(&message, outcome(3, 0));
     message.pop();
     message.push(end);
-    expect(&message, 4, 0);
+    expect(&message, outcome(4, 0));
     message[1] = 0x10;
-    expect(&message, 5, 0);
+    expect(&message, outcome(5, 0));
     message[2] = 0x06;
-    expect(&message, 6, 0);
+    expect(&message, outcome(6, 0));
     message[3] = 0x01;
-    expect(&message, 7, 0);
+    expect(&message, outcome(7, 0));
     message.remove(100);
-    expect(&message, 8, 0);
+    expect(&message, outcome(8, 0));
     message[4] = 99;
-    expect(&message, 9, 145);
+    expect(&message, outcome(9, 145));
     message[150] &= 0x0F;
-    expect(&message, 9, 195);
+    expect(&message, outcome(9, 195));
     message[200] &= 0x0F;
-    expect(&message, 10, 0);
+    expect(&message, outcome(10, 0));
     message[273] ^= 1;
-    expect(&message, 11, 9);
-    expect(&dump(0x01, 99, &half_used()), 12, 3);
+    expect(&message, found(9, 64));
+    expect(&dump(0x01, 99, &half_used()), outcome(12, 3));
 
     // Only then is the buffer's length asked for.
     let good = dump(0x01, 99, &P);
     let reading = read(&good, 0, &mut buffer);
-    assert_eq!((reading.answer, reading.detail), (13, 0));
+    assert_eq!(reading_outcome(&reading), outcome(13, 0));
     assert_eq!((reading.start, reading.end), (0, 275));
     assert_eq!(reading.bytes, [0; 4]);
     assert_eq!(buffer, [0xA5; 133]);
@@ -126,91 +126,106 @@ fn versions_and_the_zero_of_0dh() {
     }
 }
 
-/// A writer refuses and keeps its output.
-fn refuses(length: usize, answer: u8, detail: usize, write: impl FnOnce(&mut [u8]) -> Outcome) {
-    let mut out = vec![0xA5; length];
-    assert_eq!(write(&mut out), outcome(answer, detail));
-    assert!(out.iter().all(|&byte| byte == 0xA5));
-}
-
 #[test]
 fn writing_a_patch() {
-    refuses(274, 7, 0, |out| write_patch(100, &[0xFF; 133], out));
-    refuses(274, 8, 0, |out| write_patch(100, &twice_bad(), out));
-    refuses(274, 11, 9, |out| write_patch(99, &twice_bad(), out));
-    refuses(274, 12, 3, |out| write_patch(99, &half_used(), out));
-    refuses(274, 13, 0, |out| write_patch(99, &P, out));
+    refuses(274, outcome(7, 0), |out| {
+        write_patch(100, &[0xFF; 133], out)
+    });
+    refuses(274, outcome(8, 0), |out| {
+        write_patch(100, &twice_bad(), out)
+    });
+    refuses(274, found(9, 64), |out| write_patch(99, &twice_bad(), out));
+    refuses(274, outcome(12, 3), |out| {
+        write_patch(99, &half_used(), out)
+    });
+    refuses(274, outcome(13, 0), |out| write_patch(99, &P, out));
 
-    refuses(274, 7, 0, |out| write_edit_buffer(&[0xFF; 135], out));
-    refuses(274, 11, 9, |out| write_edit_buffer(&twice_bad(), out));
-    refuses(274, 12, 3, |out| write_edit_buffer(&half_used(), out));
-    refuses(274, 13, 0, |out| write_edit_buffer(&P, out));
+    refuses(274, outcome(7, 0), |out| {
+        write_edit_buffer(&[0xFF; 135], out)
+    });
+    refuses(274, found(9, 64), |out| {
+        write_edit_buffer(&twice_bad(), out)
+    });
+    refuses(274, outcome(12, 3), |out| {
+        write_edit_buffer(&half_used(), out)
+    });
+    refuses(274, outcome(13, 0), |out| write_edit_buffer(&P, out));
 }
 
 #[test]
 fn writing_a_master() {
-    refuses(350, 7, 0, |out| write_master(&[0xFF; 171], out));
-    refuses(400, 7, 0, |out| write_master(&[0xFF; 173], out));
-    refuses(350, 13, 0, |out| write_master(&[0xFF; 172], out));
+    refuses(350, outcome(7, 0), |out| write_master(&[0xFF; 171], out));
+    refuses(400, outcome(7, 0), |out| write_master(&[0xFF; 173], out));
+    refuses(350, outcome(13, 0), |out| write_master(&[0xFF; 172], out));
 }
 
 #[test]
 fn writing_edits() {
-    refuses(6, 8, 0, |out| write_edit(39, 0x80, out));
-    refuses(6, 8, 0, |out| write_edit(0, 0x80, out));
-    refuses(6, 8, 0, |out| write_edit(21, 0xFF, out));
-    refuses(6, 8, 0, |out| write_edit(128, 0, out));
-    refuses(6, 11, 9, |out| write_edit(0, 0x7F, out));
-    refuses(6, 13, 0, |out| write_edit(0, 0x3F, out));
+    refuses(6, outcome(8, 0), |out| write_edit(39, 0x80, out));
+    refuses(6, outcome(8, 0), |out| write_edit(0, 0x80, out));
+    refuses(6, outcome(8, 0), |out| write_edit(21, 0xFF, out));
+    refuses(6, outcome(8, 0), |out| write_edit(128, 0, out));
+    refuses(6, found(9, 255), |out| write_edit(0, 0x7F, out));
+    refuses(6, outcome(13, 0), |out| write_edit(0, 0x3F, out));
 
-    refuses(8, 8, 0, |out| write_bus_edit(10, 21, 0x80, 33, out));
-    refuses(8, 8, 0, |out| write_bus_edit(9, 21, 0x80, 33, out));
-    refuses(8, 11, 131, |out| write_bus_edit(9, 21, 0x40, 33, out));
-    refuses(8, 11, 133, |out| write_bus_edit(9, 0, 0x40, 33, out));
-    refuses(8, 12, 9, |out| write_bus_edit(9, 0, 0x40, 32, out));
-    refuses(8, 13, 0, |out| write_bus_edit(9, 20, 0x40, 32, out));
+    refuses(8, outcome(8, 0), |out| {
+        write_bus_edit(10, 21, 0x80, 33, out)
+    });
+    refuses(8, outcome(8, 0), |out| write_bus_edit(9, 21, 0x80, 33, out));
+    refuses(8, found(131, 21), |out| {
+        write_bus_edit(9, 21, 0x40, 33, out)
+    });
+    refuses(8, found(133, 33), |out| write_bus_edit(9, 0, 0x40, 33, out));
+    refuses(8, outcome(12, 9), |out| write_bus_edit(9, 0, 0x40, 32, out));
+    refuses(8, outcome(13, 0), |out| {
+        write_bus_edit(9, 20, 0x40, 32, out)
+    });
 }
 
 #[test]
 fn sources_and_destinations_above_127() {
-    refuses(9, 11, 104, |out| write_bus_edit(0, 0x80, 0, 0xFF, out));
-    refuses(9, 11, 106, |out| write_bus_edit(0, 1, 0, 0x81, out));
+    refuses(9, found(104, 128), |out| {
+        write_bus_edit(0, 0x80, 0, 0xFF, out)
+    });
+    refuses(9, found(106, 129), |out| write_bus_edit(0, 1, 0, 0x81, out));
     let mut patch = P;
-    assert_eq!(apply_bus_edit(&mut patch, 0, 0xFF, 0, 1), outcome(11, 104));
-    assert_eq!(apply_bus_edit(&mut patch, 0, 0, 0, 0xFF), outcome(11, 106));
+    assert_eq!(apply_bus_edit(&mut patch, 0, 0xFF, 0, 1), found(104, 255));
+    assert_eq!(apply_bus_edit(&mut patch, 0, 0, 0, 0xFF), found(106, 255));
     assert_eq!(patch, P);
 }
 
 #[test]
 fn writing_a_bank() {
-    let refused = |patches: &[u8], length: usize, answer, detail, place| {
+    let refused = |patches: &[u8], length: usize, refusal: Outcome, place| {
         let mut out = vec![0xA5; length];
         let expected = BankOutcome {
-            answer,
-            detail,
+            answer: refusal.answer,
+            detail: refusal.detail,
+            value: refusal.value,
             place,
         };
         assert_eq!(write_bank(patches, &mut out), expected);
         assert!(out.iter().all(|&byte| byte == 0xA5));
     };
     let good = P.repeat(101);
-    refused(&good[..133], 0, 7, 0, 0);
-    refused(&good[..135], 0, 7, 0, 0);
-    refused(&good, 101 * 275, 7, 0, 0);
-    refused(&[&good[..], &[0; 134]].concat(), 0, 7, 0, 0);
+    refused(&good[..133], 0, outcome(7, 0), 0);
+    refused(&good[..135], 0, outcome(7, 0), 0);
+    refused(&good, 101 * 275, outcome(7, 0), 0);
+    refused(&[&good[..], &[0; 134]].concat(), 0, outcome(7, 0), 0);
 
     let bad = [&P[..], &P, &half_used(), &twice_bad()].concat();
-    refused(&bad, 0, 12, 3, 2);
-    refused(&bad[134..], 0, 12, 3, 1);
-    refused(&bad[3 * 134..], 0, 11, 9, 0);
+    refused(&bad, 0, outcome(12, 3), 2);
+    refused(&bad[134..], 0, outcome(12, 3), 1);
+    refused(&bad[3 * 134..], 0, found(9, 64), 0);
     // A wrong length comes before a bad patch.
-    refused(&bad[..bad.len() - 1], 0, 7, 0, 0);
-    refused(&good[..3 * 134], 3 * 275 - 1, 13, 0, 0);
-    refused(&good[..134], 0, 13, 0, 0);
+    refused(&bad[..bad.len() - 1], 0, outcome(7, 0), 0);
+    refused(&good[..3 * 134], 3 * 275 - 1, outcome(13, 0), 0);
+    refused(&good[..134], 0, outcome(13, 0), 0);
 
     let nothing = BankOutcome {
         answer: 0,
         detail: 0,
+        value: 0,
         place: 0,
     };
     assert_eq!(write_bank(&[], &mut []), nothing);
@@ -223,18 +238,18 @@ fn applying_edits() {
     // The edit's own refusals come before those of the patch.
     assert_eq!(apply_edit(&mut short, 39, 0x80), outcome(8, 0));
     assert_eq!(apply_edit(&mut bad, 0, 0x80), outcome(8, 0));
-    assert_eq!(apply_edit(&mut bad, 12, 0x20), outcome(11, 19));
+    assert_eq!(apply_edit(&mut bad, 12, 0x20), found(19, 32));
     assert_eq!(apply_edit(&mut short, 12, 0x1F), outcome(7, 0));
-    assert_eq!(apply_edit(&mut bad, 12, 0x1F), outcome(11, 9));
+    assert_eq!(apply_edit(&mut bad, 12, 0x1F), found(9, 64));
     // Even where the edit would mend it.
-    assert_eq!(apply_edit(&mut bad, 0, 0x00), outcome(11, 9));
+    assert_eq!(apply_edit(&mut bad, 0, 0x00), found(9, 64));
 
     assert_eq!(apply_bus_edit(&mut short, 10, 0, 0, 0), outcome(8, 0));
     assert_eq!(apply_bus_edit(&mut short, 9, 0, 0x80, 0), outcome(8, 0));
-    assert_eq!(apply_bus_edit(&mut bad, 9, 21, 0, 1), outcome(11, 131));
+    assert_eq!(apply_bus_edit(&mut bad, 9, 21, 0, 1), found(131, 21));
     assert_eq!(apply_bus_edit(&mut bad, 9, 1, 0, 0), outcome(12, 9));
     assert_eq!(apply_bus_edit(&mut short, 9, 1, 0, 1), outcome(7, 0));
-    assert_eq!(apply_bus_edit(&mut bad, 9, 1, 0, 1), outcome(11, 9));
+    assert_eq!(apply_bus_edit(&mut bad, 9, 1, 0, 1), found(9, 64));
     assert_eq!(bad, twice_bad());
     assert_eq!(short, [0xFF; 133]);
 
@@ -253,19 +268,19 @@ fn names() {
     assert_eq!(set_name(&mut bad, b"abc"), outcome(7, 0));
     assert_eq!(set_name(&mut bad, b"BASS 1   "), outcome(7, 0));
     assert_eq!(set_name(&mut bad, b"bass 1  "), outcome(8, 0));
-    assert_eq!(set_name(&mut bad, b"BASS 1  "), outcome(11, 9));
+    assert_eq!(set_name(&mut bad, b"BASS 1  "), found(9, 64));
     assert_eq!(set_name(&mut half, b"BASS 1 \x60"), outcome(8, 0));
     assert_eq!(set_name(&mut half, b"BASS 1  "), outcome(12, 3));
     // The old name is tested too.
     let mut misnamed = P;
     misnamed[7] = 64;
-    assert_eq!(set_name(&mut misnamed, b"BASS 1  "), outcome(11, 7));
+    assert_eq!(set_name(&mut misnamed, b"BASS 1  "), found(7, 64));
     assert_eq!(misnamed[7], 64);
     assert_eq!((short, bad, half), ([0xFF; 133], twice_bad(), half_used()));
 
-    refuses(7, 7, 0, |out| show_name(&[0xFF; 135], out));
-    refuses(7, 11, 9, |out| show_name(&twice_bad(), out));
-    refuses(7, 11, 7, |out| show_name(&misnamed, out));
-    refuses(7, 12, 3, |out| show_name(&half_used(), out));
-    refuses(7, 13, 0, |out| show_name(&P, out));
+    refuses(7, outcome(7, 0), |out| show_name(&[0xFF; 135], out));
+    refuses(7, found(9, 64), |out| show_name(&twice_bad(), out));
+    refuses(7, found(7, 64), |out| show_name(&misnamed, out));
+    refuses(7, outcome(12, 3), |out| show_name(&half_used(), out));
+    refuses(7, outcome(13, 0), |out| show_name(&P, out));
 }

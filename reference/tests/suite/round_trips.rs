@@ -6,7 +6,9 @@ use reference::{
     write_master, write_patch, BankOutcome, Reading,
 };
 
-use crate::kit::{less_real_time, outcome, record, report, with_real_time, written};
+use crate::kit::{
+    less_real_time, outcome, reading_outcome, record, report, with_real_time, written,
+};
 
 /// Writes a record again.
 fn rewritten(reading: &Reading, packed: &[u8]) -> Vec<u8> {
@@ -30,13 +32,13 @@ fn a_patch_written_and_read_back_is_the_same_patch() {
         let dump = written(|out| write_patch(number, &patch, out));
         let (reading, packed) = record(&dump, 0);
         assert_eq!((reading.start, reading.end), (0, 275));
-        assert_eq!((reading.answer, reading.detail), (0, 1));
+        assert_eq!(reading_outcome(&reading), outcome(0, 1));
         assert_eq!(reading.bytes, [number, 0, 0, 0]);
         assert_eq!(packed, patch);
 
         let dump = written(|out| write_edit_buffer(&patch, out));
         let (reading, packed) = record(&dump, 0);
-        assert_eq!((reading.answer, reading.detail), (0, 0x0D));
+        assert_eq!(reading_outcome(&reading), outcome(0, 0x0D));
         assert_eq!(reading.bytes, [0; 4]);
         assert_eq!(packed, patch);
     }
@@ -50,7 +52,7 @@ fn a_master_written_and_read_back_is_the_same_master() {
         let dump = written(|out| write_master(&master, out));
         assert_eq!(dump.len(), 351);
         let (reading, packed) = record(&dump, 0);
-        assert_eq!((reading.answer, reading.detail), (0, 3));
+        assert_eq!(reading_outcome(&reading), outcome(0, 3));
         assert_eq!(reading.bytes, [0; 4]);
         assert_eq!(packed, master);
     }
@@ -63,13 +65,13 @@ fn edits_written_and_read_back_are_the_same_edits() {
         let [parameter, value] = inputs::good_edit(&mut random);
         let message = written(|out| write_edit(parameter, value, out));
         let (reading, _) = record(&message, 0);
-        assert_eq!((reading.answer, reading.detail), (0, 6));
+        assert_eq!(reading_outcome(&reading), outcome(0, 6));
         assert_eq!(reading.bytes, [parameter, value, 0, 0]);
 
         let bytes @ [bus, source, amount, destination] = inputs::good_bus_edit(&mut random);
         let message = written(|out| write_bus_edit(bus, source, amount, destination, out));
         let (reading, _) = record(&message, 0);
-        assert_eq!((reading.answer, reading.detail), (0, 0x0B));
+        assert_eq!(reading_outcome(&reading), outcome(0, 0x0B));
         assert_eq!(reading.bytes, bytes);
     }
 }
@@ -105,10 +107,7 @@ fn real_time_inside_changes_neither_answer_nor_record() {
             let noisy = with_real_time(&message);
             let (again, same) = record(&noisy, 0);
             assert_eq!((again.start, again.end), (0, noisy.len()));
-            assert_eq!(
-                (again.answer, again.detail),
-                (reading.answer, reading.detail)
-            );
+            assert_eq!(reading_outcome(&again), reading_outcome(&reading));
             assert_eq!((again.bytes, same), (reading.bytes, packed));
         }
     }
@@ -126,6 +125,7 @@ fn a_bank_written_and_read_back_is_the_same_bank() {
         let done = BankOutcome {
             answer: 0,
             detail: length,
+            value: 0,
             place: 0,
         };
         assert_eq!(write_bank(&bank, &mut out), done);
@@ -167,6 +167,7 @@ fn expected_bank(bank: &[u8], room: usize) -> BankOutcome {
     let refused = |answer| BankOutcome {
         answer,
         detail: 0,
+        value: 0,
         place: 0,
     };
     if !bank.len().is_multiple_of(134) || bank.len() > 13_400 {
@@ -178,6 +179,7 @@ fn expected_bank(bank: &[u8], room: usize) -> BankOutcome {
             return BankOutcome {
                 answer: tested.answer,
                 detail: tested.detail,
+                value: tested.value,
                 place,
             };
         }
@@ -189,6 +191,7 @@ fn expected_bank(bank: &[u8], room: usize) -> BankOutcome {
     BankOutcome {
         answer: 0,
         detail: needed,
+        value: 0,
         place: 0,
     }
 }

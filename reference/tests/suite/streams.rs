@@ -2,10 +2,15 @@
 
 use std::collections::BTreeSet;
 
+use reference::streams::damage::{damageable, Damage};
 use reference::streams::{inputs, kind_of, stream, Random, CYCLE};
-use reference::{apply_bus_edit, nibbles, reports, test_patch, Outcome, Report};
+use reference::{
+    apply_bus_edit, apply_edit, nibbles, reports, test_patch, walk, write_bank, write_patch,
+    Outcome, Report,
+};
 
-use crate::kit::{less_real_time, outcome, P};
+use crate::kit::{less_real_time, outcome, report_outcome, written, P};
+use crate::model::{self, Field};
 
 #[test]
 fn a_seed_always_makes_the_same_stream() {
@@ -56,6 +61,10 @@ fn good_and_bad_patches_are_what_they_say() {
             test_patch(&inputs::out_of_range_patch(&mut random)).answer,
             11
         );
+        assert_eq!(
+            test_patch(&inputs::one_out_of_range_patch(&mut random)).answer,
+            11
+        );
         assert_eq!(test_patch(&inputs::half_used_patch(&mut random)).answer, 12);
         assert!([11, 12].contains(&test_patch(&inputs::bad_patch(&mut random)).answer));
         lengths.insert(inputs::patch(&mut random).len());
@@ -97,7 +106,7 @@ fn streams_reach_the_last_destination_and_the_next() {
         let input = stream(seed);
         for report in reports(&input) {
             let message = less_real_time(&input[report.start..report.end]);
-            let tested = outcome(report.answer, report.detail);
+            let tested = report_outcome(&report);
             match message[..] {
                 [0xF0, 0x10, 0x06, 0x0B, a, b, c, d, 0xF7] => {
                     let edit = destination([a, b, c, d], tested);
@@ -212,4 +221,128 @@ fn streams_begin_edits_inside_dumps() {
         assert!(found.contains(&(0x03, opcode, 0)));
         assert!(found.contains(&(0x01, opcode, 7)) && found.contains(&(0x0D, opcode, 7)));
     }
+}
+
+/// A place, and whether a byte out of range there is below the least value.
+type Side = (usize, bool);
+
+/// The side that an 11 is about.
+fn side(fields: &[Field], tested: Outcome) -> Option<Side> {
+    let place = tested.detail;
+    (tested.answer == 11).then(|| (place, tested.value < fields[place].1))
+}
+
+/// Above the greatest value at every place; below the least where a byte can be.
+fn every_side(fields: &[Field]) -> BTreeSet<Side> {
+    let below = |place| place == 76 || model::has_sign(place);
+    let sides = (0..fields.len()).flat_map(|place| [(place, false), (place, true)]);
+    sides
+        .filter(|&(place, is_below)| !is_below || below(place))
+        .collect()
+}
+
+#[test]
+fn patches_reach_every_side_of_every_field() {
+    let fields = model::fields();
+    let mut random = Random::new(42);
+    let (mut lent, mut one) = (BTreeSet::new(), BTreeSet::new());
+    for _ in 0..100_000 {
+        lent.extend(side(&fields, test_patch(&inputs::patch(&mut random))));
+        let patch = inputs::one_out_of_range_patch(&mut random);
+        one.extend(side(&fields, test_patch(&patch)));
+        let outside = |&place: &usize| !model::allows(&fields, place, patch[place]);
+        assert_eq!((0..134).filter(outside).count(), 1);
+    }
+    assert_eq!(lent, every_side(&fields));
+    assert_eq!(one, every_side(&fields));
+}
+
+#[test]
+fn banks_reach_every_side_of_every_field() {
+    let fields = model::fields();
+    let mut random = Random::new(43);
+    let mut found = BTreeSet::new();
+    for _ in 0..40_000 {
+        let bank = write_bank(&inputs::bank(&mut random), &mut []);
+        let tested = Outcome {
+            answer: bank.answer,
+            detail: bank.detail,
+            value: bank.value,
+        };
+        // In a patch other than the first.
+        found.extend(side(&fields, tested).filter(|_| bank.place > 0));
+    }
+    assert_eq!(found, every_side(&fields));
+}
+
+#[test]
+fn edits_reach_every_side_that_seven_bits_can() {
+    let fields = model::fields();
+    let mut random = Random::new(44);
+    let (mut remote, mut buses) = (BTreeSet::new(), BTreeSet::new());
+    for _ in 0..100_000 {
+        let [parameter, value] = inputs::edit(&mut random);
+        remote.extend(side(&fields, apply_edit(&mut P.clone(), parameter, value)));
+        let [bus, source, amount, destination] = inputs::bus_edit(&mut random);
+        let tested = apply_bus_edit(&mut P.clone(), bus, source, amount, destination);
+        buses.extend(side(&fields, tested));
+    }
+    // No edit reaches a name, and none leaves byte 26 or an amount.
+    let reached = every_side(&fields).into_iter().filter(|&(place, _)| {
+        place == 19 || (place >= 8 && place != 26 && !model::has_sign(place))
+    });
+    let (of_buses, of_parameters) = reached.partition(|&(place, _)| place >= 104);
+    assert_eq!(remote, of_parameters);
+    assert_eq!(buses, of_buses);
+}
+
+#[test]
+fn dumps_in_streams_reach_every_side_of_every_field() {
+    let fields = model::fields();
+    let mut found = BTreeSet::new();
+    for seed in 0..100 * CYCLE {
+        for report in reports(&stream(seed)) {
+            // Edits are shorter.
+            let dump = report.end - report.start >= 275;
+            found.extend(side(&fields, report_outcome(&report)).filter(|_| dump));
+        }
+    }
+    assert_eq!(found, every_side(&fields));
+}
+
+#[test]
+fn banks_in_streams_have_a_dump_out_of_range_among_others() {
+    let found: BTreeSet<[u8; 3]> = reports_in("bank")
+        .windows(3)
+        .filter(|dumps| {
+            let mut numbered = (0..).zip(*dumps);
+            numbered.all(|(number, (_, message))| is_numbered(message, number))
+        })
+        .map(|dumps| [0, 1, 2].map(|index: usize| dumps[index].0.answer))
+        .collect();
+    for answers in [[0, 0, 0], [11, 0, 0], [0, 11, 0], [0, 0, 11]] {
+        assert!(found.contains(&answers), "{answers:?}");
+    }
+}
+
+/// Whether a message is a dump with this patch number.
+fn is_numbered(message: &[u8], number: u8) -> bool {
+    message.len() == 275 && message[3..5] == [0x01, number]
+}
+
+#[test]
+fn damages_reach_every_side_that_one_can() {
+    let fields = model::fields();
+    let mut random = Random::new(45);
+    let mut found = BTreeSet::new();
+    for _ in 0..200_000 {
+        let patch = inputs::good_patch(&mut random);
+        let mut dump = written(|out| write_patch(0, &patch, out));
+        Damage::any(&mut random, &dump, damageable(0)).apply(&mut dump);
+        found.extend(side(&fields, report_outcome(&walk(&dump, 0))));
+    }
+    // The sum stays only where a byte is moved by 128, so byte 76 doesn't become 0.
+    let mut expected = every_side(&fields);
+    expected.remove(&(76, true));
+    assert_eq!(found, expected);
 }

@@ -66,7 +66,7 @@ fn the_condensed_line_of_document_01_says_the_same() {
     assert_eq!(fields.len(), ROWS.len());
     for (row, (parameter, least, greatest)) in ROWS.iter().zip(fields) {
         assert_eq!(row.parameter, parameter, "{row:?}");
-        assert_eq!(i32::from(row.least), least, "{row:?}");
-        assert_eq!(i32::from(row.greatest), greatest, "{row:?}");
+        assert_eq!(i16::from(row.least), least, "{row:?}");
+        assert_eq!(i16::from(row.greatest), greatest, "{row:?}");
     }
 }

@@ -5,7 +5,7 @@ use std::ops::Range;
 use reference::streams::damage::{low_nibble, Damage};
 use reference::{read, reports, write_edit_buffer, write_patch, Outcome, Reading, Report};
 
-use crate::kit::{bass, report, written};
+use crate::kit::{bass, reading_outcome, report, reported, written};
 
 /// The number of a patch's data bytes; the checksum stands behind them.
 pub const DATA: usize = 268;
@@ -54,8 +54,8 @@ impl Undamaged {
     }
 
     /// The damaged dump keeps its extent and has one report, with this refusal.
-    pub fn refuses(&self, damage: Damage, Outcome { answer, detail }: Outcome) {
-        let expected = report(self.start, self.end, answer, detail);
+    pub fn refuses(&self, damage: Damage, refusal: Outcome) {
+        let expected = reported(self.start, self.end, refusal);
         assert_eq!(self.survives(damage), [expected], "{damage:?}");
     }
 
@@ -105,7 +105,7 @@ impl Undamaged {
                 (reading.start.abs_diff(from), reading.end.abs_diff(from))
             };
             assert_eq!(counted(first, &self.stream), counted(second, damaged));
-            assert_eq!((first.answer, first.detail), (second.answer, second.detail));
+            assert_eq!(reading_outcome(&first), reading_outcome(&second));
             assert_eq!(first.bytes, second.bytes);
         }
     }

@@ -6,7 +6,8 @@ use std::path::{Path, PathBuf};
 use reference::streams::damage::{low_nibble, Damage};
 use reference::{apply_bus_edit, apply_edit, listing, nibbles, reports, show_name, test_patch};
 
-use crate::kit::{outcome, record, P};
+use crate::kit::{bass, outcome, record, P};
+use crate::model;
 
 /// The names of the dumps in most of them.
 const BASS: &str = "BASS 1  ";
@@ -115,6 +116,24 @@ fn nibble_pairs_put_back_are_the_dumps_as_written() {
         bank_names(&stream),
         [BASS, BASS, BASS, STRINGS, BASS, BASS, STRINGS, LEAD, BASS, LEAD]
     );
+}
+
+#[test]
+fn dumps_hold_the_values_found_in_them() {
+    let stream = vector("found_values");
+    let refused = reports(&stream).filter(|report| report.answer == 11);
+    let mut dumps = 0;
+    for report in refused.filter(|report| report.end - report.start == 275) {
+        let mut patch = [0; 134];
+        nibbles::pack(&stream[report.start + 5..], &mut patch);
+        let place = report.detail;
+        assert_eq!(report.value, model::value(place, patch[place]));
+        // All else is as it was.
+        patch[place] = bass()[place];
+        assert_eq!(patch, bass());
+        dumps += 1;
+    }
+    assert_eq!(dumps, 13);
 }
 
 #[test]

@@ -3,7 +3,7 @@
 use reference::streams::{inputs, stream, Random, CYCLE};
 use reference::{read, reports, walk, Reading, Report};
 
-use crate::kit::{record, report};
+use crate::kit::{outcome, reading_outcome, record, report, reported};
 use crate::model;
 
 /// Seeds enough to meet each kind of stream many times.
@@ -14,7 +14,10 @@ fn reports_are_those_of_the_plain_model() {
     for seed in 0..SEEDS {
         let input = stream(seed);
         let found: Vec<_> = reports(&input)
-            .map(|report| (report.start, report.end, report.answer, report.detail))
+            .map(|report| {
+                let judged = (report.answer, report.detail, report.value);
+                (report.start, report.end, judged)
+            })
             .collect();
         assert_eq!(found, model::reports(&input), "seed {seed}");
     }
@@ -46,16 +49,11 @@ fn reading_answers_as_the_walk_does_then_13() {
         let input = stream(seed);
         for found in reports(&input).take(200) {
             let (reading, packed) = record(&input, found.start);
-            let Reading {
-                start,
-                end,
-                answer,
-                detail,
-                bytes,
-            } = reading;
-            assert_eq!(report(start, end, answer, detail), found, "seed {seed}");
-            if answer != 0 {
-                assert_eq!(bytes, [0; 4]);
+            let Reading { start, end, .. } = reading;
+            let read_as = reported(start, end, reading_outcome(&reading));
+            assert_eq!(read_as, found, "seed {seed}");
+            if reading.answer != 0 {
+                assert_eq!(reading.bytes, [0; 4]);
             }
 
             let lent = inputs::output(&mut random, packed.len());
@@ -67,6 +65,7 @@ fn reading_answers_as_the_walk_does_then_13() {
                     Reading {
                         answer: 13,
                         detail: 0,
+                        value: 0,
                         bytes: [0; 4],
                         ..reading
                     }
@@ -87,10 +86,8 @@ fn bytes_that_come_with_the_answer() {
     message.extend([0; 345]);
     message.push(0xF7);
     let (reading, packed) = record(&message, 0);
-    assert_eq!(
-        (reading.answer, reading.detail, reading.bytes),
-        (0, 3, [0; 4])
-    );
+    assert_eq!(reading_outcome(&reading), outcome(0, 3));
+    assert_eq!(reading.bytes, [0; 4]);
     assert_eq!(packed, [0; 172]);
 
     // An edit's bytes come as received, not as stored; it needs no buffer.

@@ -5,9 +5,9 @@ use std::collections::BTreeSet;
 
 use reference::streams::damage::Damage;
 use reference::streams::{inputs, Random};
-use reference::{Outcome, Report};
+use reference::Report;
 
-use crate::kit::{outcome, report, with_sum};
+use crate::kit::{outcome, report, reported, with_sum};
 use crate::model;
 use crate::neighbours::exchanged;
 use crate::undamaged::{by_turns, dumps, placed, surroundings, Undamaged, DATA};
@@ -17,7 +17,7 @@ fn slipped(undamaged: &Undamaged, at: usize) -> Report {
     let Undamaged { start, end, .. } = *undamaged;
     let dump = &undamaged.stream[start..end];
     let (opcode, number) = (dump[3], dump[4]);
-    let Outcome { answer, detail } = match at - start {
+    let refusal = match at - start {
         1 => outcome(4, 0),
         2 => outcome(5, 0),
         // The number stands as the opcode; 0DH then has 01H where its zero should be.
@@ -33,7 +33,7 @@ fn slipped(undamaged: &Undamaged, at: usize) -> Report {
         273 => return report(start, end - 1, 7, 0),
         offset => exchanged(offset - 5, dump[offset + 1]),
     };
-    report(start, end, answer, detail)
+    reported(start, end, refusal)
 }
 
 #[test]
@@ -57,28 +57,17 @@ fn exchanges_anywhere_behind_the_start() {
     }
 }
 
-/// Whether the range at a place allows a byte.
-fn allows(fields: &[(Option<u8>, i32, i32)], place: usize, byte: u8) -> bool {
-    let (_, least, greatest) = fields[place];
-    let stored = i32::from(byte);
-    let value = if least < 0 && stored >= 128 {
-        stored - 256
-    } else {
-        stored
-    };
-    (least..=greatest).contains(&value)
-}
-
 /// The indices at which the ranges allow data to read 06H and then this nibble.
 fn reads_06h_then(nibble: u8) -> Vec<usize> {
     let fields = model::fields();
+    let allows = |place, byte| model::allows(&fields, place, byte);
     let reads = |index: usize| {
         let place = index / 2;
         if index.is_multiple_of(2) {
-            return allows(&fields, place, 0x06 + 16 * nibble);
+            return allows(place, 0x06 + 16 * nibble);
         }
-        (0x60..=0x6F).any(|byte| allows(&fields, place, byte))
-            && (0..16).any(|high| allows(&fields, place + 1, nibble + 16 * high))
+        (0x60..=0x6F).any(|byte| allows(place, byte))
+            && (0..16).any(|high| allows(place + 1, nibble + 16 * high))
     };
     (0..DATA - 1).filter(|&index| reads(index)).collect()
 }

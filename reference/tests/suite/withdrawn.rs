@@ -2,7 +2,10 @@
 
 use reference::{apply_bus_edit, extend, read, walk, write_bus_edit, Outcome, Report};
 
-use crate::kit::{bus_message, less_real_time, outcome, report, with_real_time, P};
+use crate::kit::{
+    bus_message, found, less_real_time, outcome, reading_outcome, report, report_outcome, reported,
+    with_real_time, P,
+};
 
 /// The first two of each are allowed.
 const SOURCES: [u8; 4] = [0, 0x10, 21, 0xF7];
@@ -17,9 +20,14 @@ fn edits() -> impl Iterator<Item = [u8; 4]> {
     })
 }
 
-/// Whether an amount is outside -64..63 after this bit is copied into bit 7.
+/// An amount after this bit is copied into bit 7.
+fn extended(amount: u8, bit: u8) -> i8 {
+    (amount | amount >> bit << 7).cast_signed()
+}
+
+/// Whether it is then outside -64..63.
 fn outside(amount: u8, bit: u8) -> bool {
-    !(-64..=63).contains(&(amount | amount >> bit << 7).cast_signed())
+    !(-64..=63).contains(&extended(amount, bit))
 }
 
 /// The table's rows for an edit, in order: what each answers where it applies.
@@ -27,9 +35,9 @@ fn rows([bus, source, amount, destination]: [u8; 4], bit: u8) -> [Option<Outcome
     let (number, place) = (usize::from(bus), 104 + 3 * usize::from(bus));
     [
         (bus > 9 || amount > 127).then_some(outcome(8, 0)),
-        (source > 20).then_some(outcome(11, place)),
-        outside(amount, bit).then_some(outcome(11, place + 1)),
-        (destination > 32).then_some(outcome(11, place + 2)),
+        (source > 20).then_some(found(place, source.into())),
+        outside(amount, bit).then_some(found(place + 1, extended(amount, bit).into())),
+        (destination > 32).then_some(found(place + 2, destination.into())),
         ((source == 0) != (destination == 0)).then_some(outcome(12, number)),
     ]
 }
@@ -58,8 +66,8 @@ fn written_and_applied() {
         (&[][..], outcome(7, 0)),
         (&good[..133], outcome(7, 0)),
         (&[0xFF; 135], outcome(7, 0)),
-        (&[0; 134], outcome(11, 76)),
-        (&wide_amount, outcome(11, 105)),
+        (&[0; 134], found(76, 0)),
+        (&wide_amount, found(105, 64)),
         (&good, outcome(0, 0)),
     ];
     let mut met = [0; 15];
@@ -96,7 +104,7 @@ fn message(stream: &[u8], start: usize) -> Report {
         _ => outcome(4, 0),
     };
     let end = end + usize::from(stream.get(end) == Some(&0xF7));
-    report(start, end, tested.answer, tested.detail)
+    reported(start, end, tested)
 }
 
 #[test]
@@ -110,7 +118,7 @@ fn read_from_any_place() {
             if stream.get(place) == Some(&0xF0) {
                 next = message(&stream, place);
                 let found = read(&stream, place, &mut []);
-                assert_eq!((found.answer, found.detail), (next.answer, next.detail));
+                assert_eq!(reading_outcome(&found), report_outcome(&next));
                 met[usize::from(found.answer)] += 1;
             }
             assert_eq!(walk(&stream, place), next, "{edit:?}");

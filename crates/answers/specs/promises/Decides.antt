@@ -7,7 +7,7 @@ use Prim.Native.Nat.{ℕ}
 use lib.ListN.{drop}
 use Rattle.answers.specs.declared.Outcome.{Outcome}
 use Rattle.answers.specs.Lists.{All}
-use Rattle.answers.specs.Table.{Row, says}
+use Rattle.answers.specs.Table.{Row, says, outcome}
 
 -- No row says anything.
 abbrev pub Silent : List Row → Type 0
@@ -27,9 +27,9 @@ pub record Keeps (answer n : ℕ) (old after : List ℕ) : Type 0 where
   pub refused : (answer ≡ 0 → ⊥) → after ≡ old
   pub behind : answer ≡ 0 → drop n after ≡ drop n old
 
--- The outcome of a routine is that of its table: any other answer than 0 is given, with its detail, exactly when a row says so and no row before it says
--- anything; 0 exactly when no row does, with this detail.
+-- The outcome of a routine is that of its table: any other answer than 0 is given, with its detail and value, exactly when a row says so and no row
+-- before it says anything; 0 exactly when no row does, with this detail and the value 0.
 pub record Decides (rows : List Row) (detail : ℕ) (o : Outcome) : Type 0 where
   pub refuses : (r : Outcome) → (r .answer ≡ 0 → ⊥) → (o ≡ r) ↔ FirstSays rows r
   pub is-done : (o .answer ≡ 0) ↔ Silent rows
-  pub with-detail : o .answer ≡ 0 → o .detail ≡ detail
+  pub with-detail : o .answer ≡ 0 → o ≡ outcome 0 detail

@@ -3,9 +3,9 @@ use mathlib.Core.List.{List, [], _∷_}
 use mathlib.Core.Option.{some}
 use Prim.Native.Nat.{ℕ}
 use lib.Dec.{ltb}
-use Rattle.answers.specs.Table.{Row, row, rowAt}
+use Rattle.answers.specs.Table.{Row, row, rowFound}
 use Rattle.edits.specs.Edits.{storedFor, outAt}
 
 -- The tests of the value of a 06H edit whose field stands at place k: 8, then 11.
 unfoldable pub valueRows : ℕ → ℕ → ℕ → List Row
-valueRows k parameter v = row 8 (ltb 127 v) ∷ rowAt 11 (outAt (some k) (storedFor parameter v)) ∷ []
+valueRows k parameter v = row 8 (ltb 127 v) ∷ rowFound 11 (outAt (some k) (storedFor parameter v)) ∷ []

@@ -34,9 +34,9 @@ callsLeft s Whole = 2 + length s
 callsLeft s (From place messages) = 1 + (length s - place)
 callsLeft s Nothing = 0
 
--- A room of this many bytes or more takes the lines of 8 reports, 20 digits and the byte behind them for each number.
+-- A room of this many bytes or more takes the lines of 8 reports: 20 digits and the byte behind them for each number, and a sign.
 abbrev pub leastRoom : ℕ
-leastRoom = reportsMost * (width * 21)
+leastRoom = reportsMost * (width * 21 + 1)
 
 -- What a call gives: a piece, at the room's start, the room's other bytes kept. The piece and what is left then are what was left before. In
 -- a room that is long enough fewer calls may follow than before, so that nothing is left in the end; a shorter one gets an empty piece.

@@ -2,8 +2,10 @@
 use mathlib.Core.Path.{_≡_}
 use mathlib.Core.List.{List, [], _++_}
 use Prim.Native.Nat.{ℕ, zero, suc, _-_, _≤_}
-use lib.ListN.{length, take, drop}
-use Rattle.text.specs.Text.{row, Puts}
+use lib.ListN.{length, take, drop, getD}
+use Rattle.answers.specs.code.Numbers.{ofNumber}
+use Rattle.text.specs.Text.{signed, spaced, Puts}
+use Rattle.reading.specs.code.Rooms.{width}
 use Rattle.listing.specs.code.Pieces.{leftOf, callsLeft, leastRoom}
 use Rattle.listing.specs.declared.Left.{Left}
 use Rattle.listing.specs.declared.Piece.{Piece}
@@ -12,10 +14,14 @@ use Rattle.listing.specs.declared.Piece.{Piece}
 abbrev pub Within : List ℕ → ℕ → ℕ → Type 0
 Within s place messages = (messages ≤ place) × (place ≤ length s)
 
--- Some rows of w numbers each, that stand one behind the other.
-unfoldable pub rows : ℕ → ℕ → List ℕ → List ℕ
-rows w zero numbers = []
-rows w (suc n) numbers = row (take w numbers) ++ rows w n (drop w numbers)
+-- The line of a report's numbers, the last of them in two's complement.
+abbrev pub lineOf : List ℕ → List ℕ
+lineOf ns = spaced (take (width - 1) ns) ++ signed (ofNumber (getD ns (width - 1) 0)) 0x0A
+
+-- The lines of some reports, whose numbers stand one behind the other.
+unfoldable pub linesOf : ℕ → List ℕ → List ℕ
+linesOf zero numbers = []
+linesOf (suc n) numbers = lineOf numbers ++ linesOf n (drop width numbers)
 
 -- What one step adds to a text in a room that ends at `at`.
 pub record Adds (s : List ℕ) (left : Left) (old : List ℕ) (at : ℕ) (new : List ℕ) (p : Piece) : Type 0 where

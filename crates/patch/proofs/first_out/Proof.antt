@@ -1,14 +1,14 @@
 -- Where the pass says that every byte lies in its range, none is out of range. Else the loop's invariant: the lowest place out of range is
 -- that of the bytes from the one at hand on.
-use mathlib.Core.Path.{_≡_, refl, _∙_, ap, sym}
+use mathlib.Core.Path.{_≡_, refl, _∙_, sym}
 use Prim.Native.Nat.{_≤_, _-_}
 use native.Mathlib.Omega.{arith}
 use lib.ListN.{drop}
 use borrow.Author.Needs.{needs}
 use borrow.Author.Tests.{not-true, not-false}
+use mir.Facts.{toZ-ofZ}
 use Rattle.fields.specs.Fields.{fields}
 use Rattle.ranges.specs.Ranges.{outFrom}
-use Rattle.ranges.specs.code.Found.{foundAt}
 use Rattle.ranges.proofs.Steps.{byte-in, byte-out, bytes-done}
 use Rattle.patch.specs.Patch.{firstOut}
 use Rattle.patch.proofs.first_out.Statement.{statement}
@@ -21,13 +21,15 @@ abbrev μ-loop : tie.MeasureT-loop
 μ-loop p k₀ k = 134 - k
 
 returns : tie.Need-returns Inv-loop μ-loop
-returns c = sym (ap foundAt (c .before .all-in-range .ensures (c .if1 .taken)))
+returns c = rw (c .done .ensures, c .before .before .all-in-range .ensures (c .before .if1 .taken))
 
 returns-2 : tie.Need-returns-2 Inv-loop μ-loop
 returns-2 c =
-    let l = c .before .before .before .before in
-    let out = sym (c .before .in-range .ensures) ∙ not-true _ (c .if2 .taken) in
-    sym (ap foundAt (l .loop .inv .1 ∙ byte-out fields (l .before .before .before .before .args .p .now) (l .loop .k) (omega arith) out))
+    let v = c .before in
+    let l = v .before .before .before .before .before in
+    let out = sym (v .before .before .in-range .ensures) ∙ not-true _ (v .before .if2 .taken) in
+    let here = l .loop .inv .1 ∙ byte-out fields (l .before .before .before .before .args .p .now) (l .loop .k) (omega arith) out in
+    rw (c .out-of-range .ensures, toZ-ofZ (record { sfits = v .value-at .ok }), v .value-at .ensures, here)
 
 loop-again : tie.Need-loop-again Inv-loop μ-loop
 loop-again c =
@@ -37,8 +39,8 @@ loop-again c =
 
 returns-3 : tie.Need-returns-3 Inv-loop μ-loop
 returns-3 c =
-    let l = c .before in
-    sym (ap foundAt (l .loop .inv .1 ∙ bytes-done fields (l .before .before .before .before .args .p .now) (l .loop .k) (omega arith)))
+    let l = c .before .before in
+    rw (c .done2 .ensures, l .loop .inv .1, bytes-done fields (l .before .before .before .before .args .p .now) (l .loop .k) (omega arith))
 
 pub first-out-spec : {M : Type 1} → statement M
 first-out-spec =
@@ -47,13 +49,17 @@ first-out-spec =
     Inv-loop
     μ-loop
     (λ c κs. search needs)
+    (λ c κs. search needs)
     returns
     (λ c. (omega arith, refl))
     (λ c. omega arith)
     (λ c. omega arith)
     (λ c κs. search needs)
+    (λ c κs. search needs)
+    (λ c κs. search needs)
     returns-2
     (λ c. omega arith)
     (λ c. omega arith)
     loop-again
+    (λ c κs. search needs)
     returns-3)

@@ -1,47 +1,57 @@
--- The two searches in order: the first that finds something gives the answer and the detail.
-use mathlib.Core.Path.{refl, sym, _∙_}
-use mathlib.Core.Option.{none, some}
+-- The two searches in order: the first that finds something gives the answer.
+use mathlib.Core.Path.{_≡_, refl, sym, ap, _∙_}
+use mathlib.Core.List.{List, [], _∷_}
+use Prim.Native.Nat.{ℕ}
+use native.Mathlib.Omega.{arith}
 use borrow.Author.Needs.{needs}
-use Rattle.patch.specs.Patch.{firstOut, firstHalf}
+use Rattle.answers.specs.declared.Outcome.{Outcome}
+use Rattle.answers.specs.Table.{rowAt, rowFound}
+use Rattle.answers.specs.Effect.{tested}
+use Rattle.answers.proofs.Rows.{tested-stopped, tested-passed-on}
 use Rattle.ranges.proofs.Found.{found-some, found-none}
-use Rattle.patch.proofs.Tests.{fields-answer}
+use Rattle.patch.specs.Patch.{firstOut, firstHalf, fieldRows}
 use Rattle.patch.proofs.test_fields.Statement.{statement}
 use Rattle.patch.proofs.test_fields.Tie as tie
 
+abbrev patch : tie.After-first-out → List ℕ
+patch f = f .before .before .args .p .now
+
+-- Where the first search finds nothing, the second answers.
+then-half : (e : tie.Else1) → tested (fieldRows (patch (e .before .before))) ≡ tested (rowAt 12 (firstHalf (patch (e .before .before))) ∷ [])
+then-half e =
+    let f = e .before .before in
+    let p = patch f in
+    tested-passed-on (rowFound 11 (firstOut p) ∷ []) (rowAt 12 (firstHalf p) ∷ []) (omega arith)
+    (sym (ap (λ (o : Outcome). o .answer) (f .first-out .ensures)) ∙ e .if1 .left)
+
 returns : tie.Need-returns
 returns c =
-    let out = c .before .before in
-    let p = out .before .before .before .before .args .p .now in
-    let k = found-some (firstOut p) (out .out .given .0 .0) (sym (out .out .given .1) ∙ out .before .before .first-out .ensures) in
-    c .refused .ensures ∙ sym (fields-answer p (some (out .out .given .0 .0)) (firstHalf p) k refl)
+    let f = c .before .before in
+    let p = patch f in
+    f .first-out .ensures
+    ∙ sym (tested-stopped (rowFound 11 (firstOut p) ∷ []) (rowAt 12 (firstHalf p) ∷ [])
+    (λ z. c .if1 .taken (ap (λ (o : Outcome). o .answer) (f .first-out .ensures) ∙ z)))
 
 returns-2 : tie.Need-returns-2
 returns-2 c =
     let half = c .before .before in
-    let out = half .before .before .before in
-    let p = out .before .before .before .before .args .p .now in
-    let in-range = found-none (firstOut p) (sym (out .enum-told .given .1) ∙ out .before .before .first-out .ensures) in
-    let b = found-some (firstHalf p) (half .half .given .0 .0) (sym (half .half .given .1) ∙ half .before .before .first-half .ensures) in
-    c .refused2 .ensures ∙ sym (fields-answer p none (some (half .half .given .0 .0)) in-range b)
+    let e = half .before .before .before in
+    let b = found-some (firstHalf (patch (e .before .before))) (half .half .given .0 .0) (sym (half .half .given .1) ∙ half .before .before .first-half .ensures) in
+    rw (c .refused .ensures, then-half e, b)
 
 returns-3 : tie.Need-returns-3
 returns-3 c =
     let half = c .before in
-    let out = half .before .before .before in
-    let p = out .before .before .before .before .args .p .now in
-    let in-range = found-none (firstOut p) (sym (out .enum-told .given .1) ∙ out .before .before .first-out .ensures) in
-    let whole = found-none (firstHalf p) (sym (half .enum-told2 .given .1) ∙ half .before .before .first-half .ensures) in
-    c .done .ensures ∙ sym (fields-answer p none none in-range whole)
+    let e = half .before .before .before in
+    let whole = found-none (firstHalf (patch (e .before .before))) (sym (half .enum-told .given .1) ∙ half .before .before .first-half .ensures) in
+    rw (c .done .ensures, then-half e, whole)
 
 pub test-fields-spec : {M : Type 1} → statement M
 test-fields-spec =
     tie.close
     (tie.spec
     (λ c κs. search needs)
-    (λ c. search needs)
-    (λ c κs. search needs)
     returns
-    (λ c. search needs)
     (λ c κs. search needs)
     (λ c. search needs)
     (λ c κs. search needs)

@@ -1,9 +1,8 @@
 -- The count of the bytes, then the lowest place out of range, if there is a table.
-use mathlib.Core.Path.{sym, _∙_}
+use mathlib.Core.Path.{_∙_}
 use borrow.Author.Needs.{needs}
 use borrow.Author.Tests.{ne-eqb}
-use Rattle.ranges.specs.Ranges.{outFrom}
-use Rattle.ranges.proofs.Found.{found-some, found-none, no-table, by-table}
+use Rattle.ranges.proofs.Found.{no-table, by-table}
 use Rattle.ranges.proofs.test.Statement.{statement}
 use Rattle.ranges.proofs.test.Tie as tie
 
@@ -17,17 +16,8 @@ returns-2 c =
 
 returns-3 : tie.Need-returns-3
 returns-3 c =
-    let f = c .before .before .before .before in
-    let a = f .before .before .before .before .args in
-    let k = found-some (outFrom (a .table .now) 0 (a .bytes .now)) _ (sym (c .before .before .out .given .1) ∙ f .first-out .ensures) in
-    c .refused2 .ensures ∙ by-table (a .count) (a .bytes .now) (f .before .before .if1 .left) (a .table .now) _ (f .before .if2 .left) k
-
-returns-4 : tie.Need-returns-4
-returns-4 c =
-    let f = c .before .before .before in
-    let a = f .before .before .before .before .args in
-    let nowhere = found-none (outFrom (a .table .now) 0 (a .bytes .now)) (sym (c .before .enum-told .given .1) ∙ f .first-out .ensures) in
-    c .done2 .ensures ∙ by-table (a .count) (a .bytes .now) (f .before .before .if1 .left) (a .table .now) _ (f .before .if2 .left) nowhere
+    let a = c .before .before .before .before .args in
+    c .first-out .ensures ∙ by-table (a .count) (a .bytes .now) (c .before .before .if1 .left) (a .table .now) (c .before .if2 .left)
 
 pub test-spec : {M : Type 1} → statement M
 test-spec =
@@ -38,9 +28,4 @@ test-spec =
     (λ c κs. search needs)
     returns-2
     (λ c κs. search needs)
-    (λ c. search needs)
-    (λ c κs. search needs)
-    (λ c. search needs)
-    (λ c κs. search needs)
-    returns-3
-    returns-4)
+    returns-3)

@@ -3,19 +3,25 @@ use mathlib.Core.Path.{_≡_}
 use mathlib.Core.List.{List, [], _∷_, _++_}
 use Prim.Native.Nat.{ℕ, suc, _*_, _/_, _≤_}
 use lib.ListN.{length, take, drop}
+use Rattle.answers.specs.declared.Outcome.{Outcome}
 use Rattle.answers.specs.Lists.{All}
 use Rattle.answers.specs.Table.{outcomeOf}
+use Rattle.answers.specs.code.Numbers.{asNumber, ofNumber}
 use Rattle.streams.specs.Stream.{Report, reports}
 use Rattle.streams.specs.code.Scan.{outside, inside, scan}
 use Rattle.messages.specs.Judge.{judge}
 use Rattle.reading.specs.declared.listing.Listed.{Listed}
 
--- A report's numbers, and how many they are.
+-- A report's outcome.
+abbrev pub outcomeIn : Report → Outcome
+outcomeIn r = outcomeOf (r .verdict)
+
+-- A report's numbers, the value in two's complement, and how many they are.
 abbrev pub numbersOf : Report → List ℕ
-numbersOf r = r .start ∷ r .end ∷ outcomeOf (r .verdict) .answer ∷ outcomeOf (r .verdict) .detail ∷ []
+numbersOf r = r .start ∷ r .end ∷ outcomeIn r .answer ∷ outcomeIn r .detail ∷ asNumber (outcomeIn r .value) ∷ []
 
 abbrev pub width : ℕ
-width = 4
+width = 5
 
 unfoldable pub flat : List Report → List ℕ
 flat [] = []
@@ -29,10 +35,15 @@ reportsInside start rest = scan judge (suc start) (inside start []) rest
 abbrev pub fitting : List ℕ → List Report → List Report
 fitting room rs = take (length room / width) rs
 
+-- A report's number for its value stands for that value.
+abbrev pub Tells : Report → Type 0
+Tells r = ofNumber (asNumber (outcomeIn r .value)) ≡ outcomeIn r .value
+
 -- The reports rs stand at the start of a room, the numbers behind them are kept, and n is how many reports they are.
 pub record Holds (rs : List Report) (old new : List ℕ) (n : ℕ) : Type 0 where
   pub count : n ≡ length rs
   pub numbers : new ≡ flat rs ++ drop (width * length rs) old
+  pub values : All Tells rs
 
 -- The end of the last of some reports; the place p where there is none.
 unfoldable pub endOf : ℕ → List Report → ℕ

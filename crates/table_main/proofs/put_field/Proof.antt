@@ -1,6 +1,5 @@
 -- `put_field` puts the four columns one behind the other.
 use Rattle.text.proofs.Puts.{puts-then}
-use Rattle.fields.proofs.Signs.{bounds-shown}
 use Rattle.table_main.specs.Table.{tableRow}
 use borrow.Author.Needs.{needs}
 use Rattle.table_main.proofs.put_field.Statement.{statement}
@@ -12,9 +11,8 @@ returns c =
     let l = c .before .before .before .before .before .before .before in
     let p = l .before .before .before .before .before in
     let n = p .before .before .before .before in
-    let shown = bounds-shown (n .before .before .before .args .place) in
-    let least = rw (l .before .least-of .ensures, ← (shown .0)) at (l .put-value .ensures) in
-    let greatest = rw (c .before .before .before .greatest-of .ensures, ← (shown .1)) at (c .before .before .put-value2 .ensures) in
+    let least = rw (l .before .least-of .ensures) at (l .put-value .ensures) in
+    let greatest = rw (c .before .before .before .greatest-of .ensures) at (c .before .before .put-value2 .ensures) in
     puts-then (n .put-number .ensures) (puts-then (p .put-parameter .ensures) (puts-then least greatest))
 
 pub put-field-spec : {M : Type 1} → statement M

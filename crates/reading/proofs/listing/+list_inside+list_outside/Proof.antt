@@ -8,15 +8,17 @@ use lib.ListN.{length, drop}
 use borrow.Author.Needs.{needs}
 use borrow.Fn.Kinds.{In}
 use borrow.Fn.PlainCycle.{Measures, is, falls, and}
+use mir.Syntax.{w16}
+use mir.Val.{SFits}
 use Rattle.answers.proofs.Lists.{to-end}
 use Rattle.streams.specs.Bytes.{body}
 use Rattle.streams.specs.Stream.{Report, messageAt}
 use Rattle.streams.specs.code.Scan.{outside, inside}
 use Rattle.frames.proofs.Handing.{outside-none, outside-found, inside-again, inside-left, inside-cut}
 use Rattle.messages.specs.Judge.{judge}
-use Rattle.reading.specs.code.Rooms.{numbersOf, width}
+use Rattle.reading.specs.code.Rooms.{numbersOf, width, Tells}
 use Rattle.reading.proofs.Spans.{span-length}
-use Rattle.reading.proofs.Rooms.{lists-full, lists-none, lists-one, PartHolds, part-fits, lists-on, four-numbers}
+use Rattle.reading.proofs.Rooms.{lists-full, lists-none, lists-one, PartHolds, part-fits, lists-on, same-numbers, value-told}
 use Rattle.reading.proofs.listing.list_inside.Reads as list-inside
 use Rattle.reading.proofs.listing.list_inside.Kinds as list-inside-kinds
 use Rattle.reading.proofs.listing.+list_inside+list_outside.Lts-list_inside as list-inside-lts
@@ -103,7 +105,13 @@ module _ {t : ℕ} (c : Put t) where
   first : filled ≡ numbersOf (messageAt judge start rest) ++ drop width room
   first =
       let at = c .before .before .report-at in
-      c .put-report .ensures ∙ ap (λ (l : List ℕ). l ++ drop width room) (four-numbers (messageAt judge start rest) (at .result) (at .ensures))
+      c .put-report .ensures ∙ ap (λ (l : List ℕ). l ++ drop width room) (same-numbers (messageAt judge start rest) (at .result) (at .ensures))
+
+  tells : Tells (messageAt judge start rest)
+  tells =
+      let at = c .before .before .report-at in
+      let small : SFits w16 (at .result .outcome .value) = search needs in
+      value-told (messageAt judge start rest) (at .result) (at .ensures) small
 
   -- The reports listed behind it are in the room too.
   in-room : (rs : List Report) (new : List ℕ) (k : ℕ) → PartHolds filled rs new k → 1 + k ≤ length room
@@ -113,7 +121,7 @@ list-inside-returns-2 : (t : ℕ) → list-inside-lts.Need-returns-2 (calls t) (
 list-inside-returns-2 t c =
     let p = c .before .before .before in
     rw (inside-cut judge (start p) (rest p) (omega (arith, index p, c .if2 .taken)))
-    (lists-one (messageAt judge (start p) (rest p)) (room p) (filled p) (fits p) (first p))
+    (lists-one (messageAt judge (start p) (rest p)) (room p) (filled p) (fits p) (first p) (tells p))
 
 list-inside-returns-3 : (t : ℕ) → list-inside-lts.Need-returns-3 (calls t) (list-inside-at t) list-inside.Post
 list-inside-returns-3 t c =
@@ -122,7 +130,7 @@ list-inside-returns-3 t c =
     let p = ended .before .before .before .before .before in
     let there : length (body (rest p)) < length (rest p) = omega (arith, index p, ended .before .before .if2 .left) in
     let again = inside-again judge (start p) (rest p) there (rw (index p) at (ended .if3 .taken)) in
-    lists-on (rest p) (start p) (room p) (filled p) (fits p) (first p) (counted p) (index p) (λ q. inside q []) _ refl again
+    lists-on (rest p) (start p) (room p) (filled p) (fits p) (first p) (tells p) (counted p) (index p) (λ q. inside q []) _ refl again
     (call .list-inside .last .1 .1 .0) (call .list-inside .result) (call .list-inside .ensures)
 
 list-inside-returns-4 : (t : ℕ) → list-inside-lts.Need-returns-4 (calls t) (list-inside-at t) list-inside.Post
@@ -133,7 +141,7 @@ list-inside-returns-4 t c =
     let there : length (body (rest p)) < length (rest p) = omega (arith, index p, ended .before .before .if2 .left) in
     let left = inside-left judge (start p) (rest p) there (λ z. ended .if3 .left (rw (index p) z)) in
     let next : start p + 1 + counted p + 1 ≡ suc (start p + 1 + counted p) = omega arith in
-    lists-on (rest p) (start p) (room p) (filled p) (fits p) (first p) (counted p) (index p) (λ q. outside) _ next left
+    lists-on (rest p) (start p) (room p) (filled p) (fits p) (first p) (tells p) (counted p) (index p) (λ q. outside) _ next left
     (call .list-outside .last .1 .1 .0) (call .list-outside .result) (call .list-outside .ensures)
 
 list-inside-add-result : (t : ℕ) → list-inside-lts.Need-add-result (calls t) (list-inside-at t) list-inside.Post

@@ -1,15 +1,17 @@
--- `list_some` lends the first 32 numbers of a larger room, so that no more than 8 reports are made.
+-- `list_some` lends no more of a larger room than 8 reports take.
 use mathlib.Core.Path.{sym}
+use Prim.Native.Nat.{_*_}
 use native.Mathlib.Omega.{arith}
 use lib.Seq.{length-take-le}
 use borrow.Author.Needs.{needs}
 use Rattle.answers.proofs.Lists.{to-end}
+use Rattle.reading.specs.code.Rooms.{width, most}
 use Rattle.reading.proofs.Rooms.{fills-part, fills-whole}
 use Rattle.reading.proofs.listing.list_some.Statement.{statement}
 use Rattle.reading.proofs.listing.list_some.Tie as tie
 
 slice-aggregate-list-outside : tie.Need-slice-aggregate-list-outside
-slice-aggregate-list-outside c = sym (length-take-le 32 (c .before .before .before .before .before .args .room .now) (omega arith))
+slice-aggregate-list-outside c = sym (length-take-le (most * width) (c .before .before .before .before .before .args .room .now) (omega arith))
 
 returns : tie.Need-returns
 returns c =

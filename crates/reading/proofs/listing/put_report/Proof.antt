@@ -4,15 +4,23 @@ use mathlib.Core.List.{[], _∷_}
 use native.Mathlib.Omega.{arith}
 use lib.ListN.{length-set}
 use borrow.Author.Needs.{needs}
+use mir.Syntax.{w16}
+use mir.Val.{SFits}
+use mir.Facts.{toZ-ofZ}
+use Rattle.answers.specs.code.Numbers.{asNumber}
 use Rattle.answers.proofs.Lists.{puts-after}
 use Rattle.reading.proofs.listing.put_report.Statement.{statement}
 use Rattle.reading.proofs.listing.put_report.Tie as tie
 
 returns : tie.Need-returns
 returns c =
-    let r = c .before .args .r in
-    let room = c .before .args .room .now in
-    puts-after [] (r .start ∷ r .end ∷ r .outcome .answer ∷ r .outcome .detail ∷ []) room room 0 refl (c .before .pre) refl
+    let s = c .before .before .before .before in
+    let a = s .args in
+    let r = a .r in
+    let room = a .room .now in
+    let small : SFits w16 (r .outcome .value) = search needs in
+    rw (c .as-number .ensures, toZ-ofZ small)
+    (puts-after [] (r .start ∷ r .end ∷ r .outcome .answer ∷ r .outcome .detail ∷ asNumber (r .outcome .value) ∷ []) room room 0 refl (s .pre) refl)
 
 pub put-report-spec : {M : Type 1} → statement M
 put-report-spec =
@@ -22,6 +30,8 @@ put-report-spec =
     (λ c. simp length-set (omega arith))
     (λ c. search needs)
     (λ c. simp length-set (omega arith))
+    (λ c. simp length-set (omega arith))
+    (λ c κs. search needs)
     (λ c. simp length-set (omega arith))
     (λ c. simp length-set)
     returns)

@@ -3,6 +3,7 @@ use Prim.Native.Nat.{_*_, _≤_}
 use native.Mathlib.Omega.{arith}
 use lib.ListN.{length}
 use borrow.Author.Needs.{needs}
+use Rattle.reading.specs.code.Rooms.{width}
 use Rattle.reading.proofs.Rooms.{makes-none, makes-zero, makes-some, made-fits}
 use Rattle.reading.proofs.listing.reports.Statement.{statement}
 use Rattle.reading.proofs.listing.reports.Tie as tie
@@ -18,7 +19,7 @@ returns-2 c =
 
 -- The numbers made are in the room.
 fits : (c : tie.Else2)
-    → let call = c .before .before .before in 4 * call .list-some .result ≤ length (call .before .before .before .before .before .args .room .now)
+    → let call = c .before .before .before in width * call .list-some .result ≤ length (call .before .before .before .before .before .args .room .now)
 fits c =
     let call = c .before .before .before in
     let a = call .before .before .before .before .before .args in

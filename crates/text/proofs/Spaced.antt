@@ -1,20 +1,20 @@
--- Rows of numbers, number by number, and how long they are.
+-- Numbers one behind the other, and how long they are.
 use mathlib.Core.Path.{_≡_}
 use mathlib.Core.List.{List, [], _∷_, _++_}
 use Prim.Native.Nat.{ℕ, zero, suc, _+_, _*_, _/_, _<_, _≤_}
 use native.Mathlib.Decide.{decLe}
 use native.Mathlib.Numerals.{add-one}
 use native.Mathlib.Omega.{arith}
+use lib.IntN.{ℤ, pos, negsuc}
 use lib.ListN.{length, drop, getD, length-append}
 use lib.Seq.{drop-cons}
 use borrow.Author.Tests.{lt-ltb, le-ltb}
-use Rattle.text.specs.Text.{digitsOf, followed, separator, row}
+use Rattle.text.specs.Text.{ascii, digitsOf, followed, signed, spaced}
 
--- What is left of a row from an index on: the number there, what stands behind it, and the rest.
-pub row-next : (ns : List ℕ) (i : ℕ) → i < length ns
-    → row (drop i ns) ≡ followed (getD ns i 0) (separator (drop (i + 1) ns)) ++ row (drop (i + 1) ns)
-unfolding row
-row-next ns i h = rw (drop-cons ns i 0 h, add-one i)
+-- What is left of them from an index on: the number there, and the rest.
+pub spaced-next : (ns : List ℕ) (i : ℕ) → i < length ns → spaced (drop i ns) ≡ followed (getD ns i 0) 0x20 ++ spaced (drop (i + 1) ns)
+unfolding spaced
+spaced-next ns i h = rw (drop-cons ns i 0 h, add-one i)
 
 -- At most k digits.
 digits-most : (k n : ℕ) → length (digitsOf k n) ≤ k
@@ -30,7 +30,13 @@ digits-most (suc k) n = by-size (decLe 10 n) (digits-most k (n / 10))
 pub followed-most : (n b : ℕ) → length (followed n b) ≤ 21
 followed-most n b = let d = digits-most 20 n in simp length-append (omega arith)
 
-pub row-most : (ns : List ℕ) → length (row ns) ≤ 21 * length ns
-unfolding row
-row-most [] = omega arith
-row-most (n ∷ ns) = let i = row-most ns in let f = followed-most n (separator ns) in rw length-append (omega arith)
+-- With a sign one more.
+pub signed-most : (v : ℤ) (b : ℕ) → length (signed v b) ≤ 22
+unfolding ascii
+signed-most (pos n) b = let f = followed-most n b in omega arith
+signed-most (negsuc n) b = let f = followed-most (suc n) b in omega arith
+
+pub spaced-most : (ns : List ℕ) → length (spaced ns) ≤ 21 * length ns
+unfolding spaced
+spaced-most [] = omega arith
+spaced-most (n ∷ ns) = let i = spaced-most ns in let f = followed-most n 0x20 in rw length-append (omega arith)
