@@ -205,3 +205,15 @@ decides rows detail b p o a e = record {
 -- What they decide is done, or has a refusal's number.
 pub decides-number : (rows : List Row) (detail : ℕ) (o : Outcome) → Refusals rows → Decides rows detail o → (o .answer ≡ 0 → ⊥) → IsRefusal (o .answer)
 decides-number rows detail o a d n = first-number IsRefusal rows 0 [] [] o a (given-first rows (done 0 [] []) o (d .refuses o n .0 refl))
+
+-- They decide one outcome.
+pub is-first : (rows : List Row) (detail : ℕ) (o : Outcome) → Refusals rows → Decides rows detail o → o ≡ outcomeOf (first rows (done detail [] []))
+is-first rows detail o a c = go (first rows (done detail [] [])) refl
+  where
+    go : (v : Verdict) → first rows (done detail [] []) ≡ v → o ≡ outcomeOf v
+    go (done x b p) q =
+        let s = done-passed rows (done detail [] []) x b p q in
+        c .with-detail (c .is-done .1 (s .0)) ∙ ap outcomeOf (s .1)
+    go (refused r) q =
+        let number = first-number IsRefusal rows detail [] [] r a q in
+        c .refuses r (λ z. omega (arith, number)) .1 (first-given rows detail [] [] r q)

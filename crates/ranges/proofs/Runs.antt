@@ -1,13 +1,13 @@
 -- Runs of bytes from a place on, none of them out of range: byte by byte, joined and split, one byte stored.
-use mathlib.Core.Path.{_≡_, refl}
+use mathlib.Core.Path.{_≡_, refl, sym}
 use mathlib.Core.Bool.{Bool, true, false, cond}
 use mathlib.Core.List.{List, [], _∷_, _++_}
 use mathlib.Core.Option.{Option, none, some}
-use Prim.Native.Nat.{ℕ, zero, suc, _+_, _≤_, _<_}
+use Prim.Native.Nat.{ℕ, zero, suc, _+_, _-_, _≤_, _<_}
 use native.Mathlib.Nat.{add-zero}
 use native.Mathlib.Omega.{arith}
 use lib.Dec.{T}
-use lib.ListN.{length, set}
+use lib.ListN.{length, getD, set}
 use lib.IntN.{ℤ}
 use Rattle.answers.specs.Lists.{All}
 use Rattle.answers.specs.Table.{Found, found}
@@ -75,6 +75,25 @@ module _ (t : Table) where
           → (outFrom t (suc k) p ≡ some (found j v) → j < suc k + length p) → j < k + suc (length p)
       go true e rest = let l = rest e in omega arith
       go false e rest = let same : k ≡ j = cc in omega arith
+
+  -- The value that is found is that of the byte there.
+  pub out-value : (k : ℕ) (p : List ℕ) (j : ℕ) (v : ℤ) → outFrom t k p ≡ some (found j v) → (k ≤ j) × (v ≡ valueIn t j (getD p (j - k) 0))
+  unfolding outFrom
+  out-value k [] j v e = let z : _≡_ {A = ℕ} 0 1 = cc in absurd (omega arith)
+  out-value k (b ∷ p) j v e = go (inRow t k b) e (out-value (suc k) p j v)
+    where
+      go : (u : Bool) → cond u (outFrom t (suc k) p) (some (found k (valueIn t k b))) ≡ some (found j v)
+          → (outFrom t (suc k) p ≡ some (found j v) → (suc k ≤ j) × (v ≡ valueIn t j (getD p (j - suc k) 0)))
+          → (k ≤ j) × (v ≡ valueIn t j (getD (b ∷ p) (j - k) 0))
+      go true e rest =
+          let l = rest e in
+          let next : j - k ≡ suc (j - suc k) = omega (arith, l .0) in
+          (omega (arith, l .0), rw next (l .1))
+      go false e rest =
+          let here : k ≡ j = cc in
+          let same : valueIn t k b ≡ v = cc in
+          let first : j - k ≡ 0 = omega arith in
+          (omega arith, rw (first, ← here) (sym same))
 
   -- Every row spans at most 128 bytes.
   abbrev pub narrow-row : ℕ → Bool

@@ -9,6 +9,7 @@ use Prim.Native.Nat.{ℕ, zero, suc, _+_, _*_, _/_, _%_, _<_, _≤_}
 use native.Mathlib.Decide.{decLe}
 use native.Mathlib.Omega.{arith}
 use lib.Dec.{eqb, leb, ltb}
+use lib.IntN.{ℤ}
 use lib.ListN.{length, take, drop, length-map, length-set, drop-of-length-le}
 use lib.Seq.{drop-at, drop-append-seam, drop-drop}
 use borrow.Author.Tests.{eqb-true, leb-true, leb-false, le-ltb, lt-ltb}
@@ -25,7 +26,8 @@ use Rattle.streams.specs.Stream.{Report, Reading, packedIn, readInto, readRepor
 use Rattle.streams.proofs.Walk.{reread-from}
 use Rattle.streams.proofs.Lent.{reading-keeps}
 use Rattle.nibbles.specs.Nibbles.{nibbles, pack, nibbleRows, packing, unpacking}
-use Rattle.patch.specs.Patch.{fieldRows, patchRows}
+use Rattle.fields.specs.Parameters.{parameterRow, ranging}
+use Rattle.patch.specs.Patch.{fieldRows, patchRows, heldRows, valueIn, heldBy, holding}
 use Rattle.patch.proofs.Tests.{field-refusals, patch-refusals}
 use Rattle.names.specs.Names.{stored, shown, nameRows, naming, showing}
 use Rattle.ranges.specs.Ranges.{countedRows}
@@ -415,6 +417,31 @@ module _ (ps : List ℕ) where
       by-length false q = rw q (by-bank out (firstBad (length ps / 134) 0 ps) refl)
 
 -- Demand 1, whole.
+-- What is told of a parameter is 8, or done.
+range-answered : (n : ℕ) → Decides (parameterRow n ∷ []) 0 (ranging n .outcome)
+unfolding ranging
+range-answered n = decides (parameterRow n ∷ []) 0 [] [] _ (omega arith) (by-place (placeOf n) refl)
+  where
+    by-place : (o : Option ℕ) → placeOf n ≡ o → ranging n .outcome ≡ outcomeOf (first (parameterRow n ∷ []) (done 0 [] []))
+    by-place none q = rw q
+    by-place (some k) q = rw q
+
+held-answered : (n : ℕ) (p : List ℕ) → Decides (heldRows n p) 0 (holding n p .outcome)
+unfolding holding
+held-answered n p = decides (heldRows n p) 0 [] [] _ (omega arith, patch-refusals p) (by-rows (heldRows n p))
+  where
+    held : ℤ
+    held = valueIn (placeOf n) p
+
+    by-rows : (rows : List Row) → heldBy held (first rows (done 0 [] [])) .outcome ≡ outcomeOf (first rows (done 0 [] []))
+    by-rows [] = refl
+    by-rows (r ∷ rows) = go (heard r) (by-rows rows)
+      where
+        go : Heard r → heldBy held (first rows (done 0 [] [])) .outcome ≡ outcomeOf (first rows (done 0 [] []))
+            → heldBy held (first (r ∷ rows) (done 0 [] [])) .outcome ≡ outcomeOf (first (r ∷ rows) (done 0 [] []))
+        go (nothing q) i = rw q i
+        go (something o q) i = rw q
+
 pub demand-1 : Demand1
 unfolding showing packing unpacking judge
 demand-1 = record {
@@ -433,6 +460,8 @@ demand-1 = record {
   read-where = read-there;
   read-bytes = read-no-bytes;
   test = λ p. decides (patchRows p) 0 [] [] _ (patch-refusals p) refl;
+  range = range-answered;
+  held = held-answered;
   test-edit = λ n v. decides (editRows n v) 0 [] [] _ (edit-refusals n v) refl;
   test-bus-edit = λ b s a d. decides (busRows b s a d) 0 [] [] _ (bus-refusals b s a d) refl;
   test-packed = λ q p. decides (lentRows q p) 0 [] [] _ (omega arith, packed-refusals q p) refl;

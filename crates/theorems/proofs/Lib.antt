@@ -3,6 +3,7 @@ pub mod Readings
 pub mod Containment
 pub mod Damage
 pub mod Answers
+pub mod Found
 pub mod Withdrawn
 pub mod Examples
 pub mod Writers

@@ -18,7 +18,8 @@ use Rattle.streams.specs.Stream.{packedIn, reportsFrom}
 use Rattle.nibbles.specs.Nibbles.{nibbles, pack, nibbleRows, packing, unpacking}
 use Rattle.ranges.specs.Ranges.{Table, countedRows}
 use Rattle.fields.specs.Fields.{size}
-use Rattle.patch.specs.Patch.{fieldRows, patchRows}
+use Rattle.fields.specs.Parameters.{parameterRow, ranging}
+use Rattle.patch.specs.Patch.{fieldRows, patchRows, heldRows, holding}
 use Rattle.names.specs.Names.{shown, nameRows, naming, showing}
 use Rattle.edits.specs.Edits.{editRows, busRows, applying, applyingBus}
 use Rattle.messages.specs.declared.kinds.Kind.{Kind}
@@ -120,6 +121,9 @@ pub record Demand1 : Type 0 where
   pub read-bytes : (s : List ℕ) (place : ℕ) (lent : List ℕ)
       → let r = reads s place lent .result in (r .report .outcome .answer ≡ 0 → ⊥) → r .bytes ≡ four []
   pub test : (p : List ℕ) → Decides (patchRows p) 0 (tested (patchRows p))
+  -- the range of a parameter, and its value in a patch
+  pub range : (parameter : ℕ) → Decides (parameterRow parameter ∷ []) 0 (ranging parameter .outcome)
+  pub held : (parameter : ℕ) (p : List ℕ) → Decides (heldRows parameter p) 0 (holding parameter p .outcome)
   -- the tests of an edit and of what a message packs, by themselves
   pub test-edit : (parameter v : ℕ) → Decides (editRows parameter v) 0 (tested (editRows parameter v))
   pub test-bus-edit : (bus source amount destination : ℕ)

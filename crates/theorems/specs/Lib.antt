@@ -1,6 +1,7 @@
 pub mod Damage
 pub mod Slipped
 pub mod Answers
+pub mod Found
 pub mod Withdrawn
 pub mod RoundTrips
 pub mod Examples

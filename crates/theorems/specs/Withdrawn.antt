@@ -11,7 +11,8 @@ use Rattle.answers.specs.Effect.{Effect, tested, changed, written}
 use Rattle.streams.specs.Stream as stream
 use Rattle.nibbles.specs.Nibbles.{packing, unpacking}
 use Rattle.ranges.specs.Ranges.{Table, countedRows}
-use Rattle.patch.specs.Patch.{patchRows}
+use Rattle.fields.specs.Parameters.{ranging}
+use Rattle.patch.specs.Patch.{patchRows, holding}
 use Rattle.names.specs.Names.{naming, showing}
 use Rattle.edits.specs.Edits.{editRows, busRows, withBus, applying, applyingBus}
 use Rattle.edits.specs.promises.Withdrawn.{with14}
@@ -49,6 +50,8 @@ pub record NoInputGives14 : Type 0 where
   pub bus-edit : (bus source amount destination : ℕ) (p : List ℕ) → Not14 (applyingBus bus source amount destination p .result)
   -- the tests by themselves
   pub test : (p : List ℕ) → Not14 (tested (patchRows p))
+  pub range : (parameter : ℕ) → Not14 (ranging parameter .outcome)
+  pub held : (parameter : ℕ) (p : List ℕ) → Not14 (holding parameter p .outcome)
   pub test-edit : (parameter v : ℕ) → Not14 (tested (editRows parameter v))
   pub test-bus-edit : (bus source amount destination : ℕ) → Not14 (tested (busRows bus source amount destination))
   pub test-packed : (q : Packed) (p : List ℕ) → Not14 (tested (lentRows q p))
