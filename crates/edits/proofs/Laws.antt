@@ -13,13 +13,14 @@ use borrow.Author.Tests.{eqb-true, eqb-false}
 use Rattle.answers.specs.declared.Outcome.{Outcome}
 use Rattle.answers.specs.Table.{Row, done, first, outcome}
 use Rattle.answers.specs.Effect.{Effect, changed, tested}
-use Rattle.answers.proofs.Rows.{Refusals, both-refusals, first-passed, done-passed, silent-parts}
+use Rattle.answers.proofs.Rows.{Refusals, both-refusals, first-passed, done-passed, silent-parts, answered-silent}
 use Rattle.answers.proofs.Effects.{changed-silent}
 use Rattle.answers.specs.promises.Decides.{Silent}
 use Rattle.ranges.specs.Ranges.{outFrom}
 use Rattle.ranges.proofs.Runs.{one-in, out-set}
-use Rattle.fields.specs.Fields.{fields, inRange, placeOf}
-use Rattle.patch.specs.Patch.{firstOut, halfUsed, patchRows}
+use Rattle.fields.specs.Fields.{fields, inRange, valueAt, placeOf}
+use Rattle.patch.specs.Patch.{firstOut, halfUsed, patchRows, held}
+use Rattle.patch.proofs.Parameters.{held-done}
 use Rattle.patch.proofs.Tests.{patch-refusals, fields-pass, patch-length}
 use Rattle.fields.proofs.Rules.{found-place}
 use Rattle.patch.proofs.Accepted.{Whole, each-whole, patch-accepted}
@@ -74,15 +75,20 @@ edit-at n v k p q e =
     let l = patch-length p quiet in
     let new = edit-stored n v k p q e in
     let to = ap (λ (f : Effect Outcome). f .lent) new in
+    let own = ap (λ (r : List ℕ). getD r k 0) to ∙ getD-set-same p k (storedFor n v) 0 (omega arith) in
+    let kept = ap (λ (r : List ℕ). tested (patchRows r)) to ∙ one-stored p k (storedFor n v) quiet (sits .high) (value-inside k n v edit) in
+    let after = applying n v p .lent in
+    let still = answered-silent (patchRows after) (patch-refusals after) (ap (λ (o : Outcome). o .answer) kept) in
     record {
       place = k;
       found = q;
       inside = omega arith;
       answered = ap (λ (f : Effect Outcome). f .result) new;
       stored = to;
-      own = ap (λ (r : List ℕ). getD r k 0) to ∙ getD-set-same p k (storedFor n v) 0 (omega arith);
+      own = own;
       others = λ i h. ap (λ (r : List ℕ). getD r i 0) to ∙ getD-set-other p k i (storedFor n v) 0 h;
-      accepted = ap (λ (r : List ℕ). tested (patchRows r)) to ∙ one-stored p k (storedFor n v) quiet (sits .high) (value-inside k n v edit);
+      accepted = kept;
+      told = held-done n after k q still ∙ ap (λ (b : ℕ). held (outcome 0 0) (valueAt k b)) own;
     }
 
 -- A remote edit that is done changes its own field to the value as stored and no other byte, and the patch stays accepted.

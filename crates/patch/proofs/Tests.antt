@@ -1,17 +1,26 @@
 -- The tests of a patch as rows of a table of answers, and what rows that say nothing tell of the patch.
 use mathlib.Core.Path.{_≡_}
-use mathlib.Core.List.{List}
-use mathlib.Core.Option.{none}
+use mathlib.Core.List.{List, [], _∷_}
+use mathlib.Core.Option.{none, some}
 use Prim.Native.Nat.{ℕ}
 use native.Mathlib.Omega.{arith}
+use lib.IntN.{ℤ}
 use lib.ListN.{length}
 use borrow.Author.Tests.{eq-eqb}
+use Rattle.answers.specs.Table.{rowAt, found, outcomeAt}
 use Rattle.answers.specs.Effect.{tested}
 use Rattle.answers.proofs.Rows.{Refusals, row-at-silent, row-found-silent, row-equal}
 use Rattle.answers.specs.promises.Decides.{Silent}
 use Rattle.patch.specs.Patch.{firstOut, firstHalf, fieldRows, patchRows}
 
 module _ (p : List ℕ) where
+  -- A byte out of range gives the answer, whatever the buses are; where there is none, they do.
+  pub fields-out : (k : ℕ) (v : ℤ) → firstOut p ≡ some (found k v) → tested (fieldRows p) ≡ outcomeAt 11 k v
+  fields-out k v e = rw e
+
+  pub fields-in : firstOut p ≡ none → tested (fieldRows p) ≡ tested (rowAt 12 (firstHalf p) ∷ [])
+  fields-in e = rw e
+
   -- The rows of a patch's fields, and of a lent patch, are refusals.
   pub field-refusals : Refusals (fieldRows p)
   field-refusals = omega arith

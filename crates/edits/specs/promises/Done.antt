@@ -6,8 +6,8 @@ use Prim.Native.Nat.{ℕ, _≤_, _<_}
 use lib.ListN.{getD, set}
 use Rattle.answers.specs.Table.{outcome}
 use Rattle.answers.specs.Effect.{tested}
-use Rattle.fields.specs.Fields.{size, placeOf}
-use Rattle.patch.specs.Patch.{sourceAt, amountAt, destinationAt, patchRows}
+use Rattle.fields.specs.Fields.{size, valueAt, placeOf}
+use Rattle.patch.specs.Patch.{sourceAt, amountAt, destinationAt, patchRows, held, holding}
 use Rattle.edits.specs.Edits.{extended, storedFor, withBus, applying, applyingBus}
 
 -- A remote edit that is done: the byte at its parameter's place becomes the value as stored, every other byte stays, and the patch
@@ -21,6 +21,8 @@ pub record EditDone (n v : ℕ) (p : List ℕ) : Type 0 where
   pub own : getD (applying n v p .lent) place 0 ≡ storedFor n v
   pub others : (i : ℕ) → (i ≡ place → ⊥) → getD (applying n v p .lent) i 0 ≡ getD p i 0
   pub accepted : tested (patchRows (applying n v p .lent)) ≡ outcome 0 0
+  -- asked for it, the patch tells the value that was stored
+  pub told : holding n (applying n v p .lent) ≡ held (outcome 0 0) (valueAt place (storedFor n v))
 
 -- A matrix modulation edit that is done: its bus holds source, extended amount and destination, every other byte stays, and the patch
 -- afterwards passes its tests.

@@ -1,15 +1,13 @@
 -- The two searches in order: the first that finds something gives the answer.
-use mathlib.Core.Path.{_≡_, refl, sym, ap, _∙_}
+use mathlib.Core.Path.{_≡_, sym, _∙_}
 use mathlib.Core.List.{List, [], _∷_}
 use Prim.Native.Nat.{ℕ}
-use native.Mathlib.Omega.{arith}
 use borrow.Author.Needs.{needs}
-use Rattle.answers.specs.declared.Outcome.{Outcome}
-use Rattle.answers.specs.Table.{rowAt, rowFound}
+use Rattle.answers.specs.Table.{rowAt}
 use Rattle.answers.specs.Effect.{tested}
-use Rattle.answers.proofs.Rows.{tested-stopped, tested-passed-on}
-use Rattle.ranges.proofs.Found.{found-some, found-none}
+use Rattle.ranges.proofs.Found.{found-some, found-none, told-some, told-none}
 use Rattle.patch.specs.Patch.{firstOut, firstHalf, fieldRows}
+use Rattle.patch.proofs.Tests.{fields-out, fields-in}
 use Rattle.patch.proofs.test_fields.Statement.{statement}
 use Rattle.patch.proofs.test_fields.Tie as tie
 
@@ -20,23 +18,21 @@ patch f = f .before .before .args .p .now
 then-half : (e : tie.Else1) → tested (fieldRows (patch (e .before .before))) ≡ tested (rowAt 12 (firstHalf (patch (e .before .before))) ∷ [])
 then-half e =
     let f = e .before .before in
-    let p = patch f in
-    tested-passed-on (rowFound 11 (firstOut p) ∷ []) (rowAt 12 (firstHalf p) ∷ []) (omega arith)
-    (sym (ap (λ (o : Outcome). o .answer) (f .first-out .ensures)) ∙ e .if1 .left)
+    fields-in (patch f) (told-none (firstOut (patch f)) (f .first-out .result) (f .first-out .ensures) (e .if1 .left))
 
 returns : tie.Need-returns
 returns c =
     let f = c .before .before in
-    let p = patch f in
-    f .first-out .ensures
-    ∙ sym (tested-stopped (rowFound 11 (firstOut p) ∷ []) (rowAt 12 (firstHalf p) ∷ [])
-    (λ z. c .if1 .taken (ap (λ (o : Outcome). o .answer) (f .first-out .ensures) ∙ z)))
+    let r = f .first-out .result in
+    let out = told-some (firstOut (patch f)) r (f .first-out .ensures) (c .if1 .taken) in
+    rw (fields-out (patch f) (r .detail) (r .value) out) (rw out at (f .first-out .ensures))
 
 returns-2 : tie.Need-returns-2
 returns-2 c =
     let half = c .before .before in
     let e = half .before .before .before in
-    let b = found-some (firstHalf (patch (e .before .before))) (half .half .given .0 .0) (sym (half .half .given .1) ∙ half .before .before .first-half .ensures) in
+    let p = patch (e .before .before) in
+    let b = found-some (firstHalf p) (half .half .given .0 .0) (sym (half .half .given .1) ∙ half .before .before .first-half .ensures) in
     rw (c .refused .ensures, then-half e, b)
 
 returns-3 : tie.Need-returns-3
