@@ -9,7 +9,7 @@
  * - A slice is a pointer to its first element and its length in elements. The pointer of an empty
  *   slice may be NULL. No slice that a call may write overlaps another slice of the same call.
  * - Where several refusals apply, the first in the order that the comment names is given. An outcome's
- *   detail is 0 where the comment names none, and its value with every answer but 11.
+ *   detail is 0 where the comment names none; its value is 0 with every answer but 11.
  * - Refused: every byte lent keeps its value. Done: bytes behind the output keep theirs.
  * - No function allocates, keeps a pointer, or has any state; each may be called from any thread.
  */
@@ -70,9 +70,9 @@ enum matrix_opcode {
 #define MATRIX_NONE 255
 
 /* What a call came to. With answer 11 the value is that of the field out of range, for an edit the one
- * that it would store; with every other answer it is 0. It has its sign where the field has one: byte
- * 19, bytes 86 to 103, the amounts of the buses. Any other field shows its byte as it stands: an edit
- * of parameter 0 with 40H would store C0H and shows 192. */
+ * that it would store; with every other answer it is 0, which it may be with 11 too: ask the answer. It
+ * has its sign where the field has one: byte 19, bytes 86 to 103, the amounts of the buses. Any other
+ * field shows its byte as it stands: an edit of parameter 0 with 40H would store C0H and shows 192. */
 typedef struct matrix_outcome {
     uint8_t answer; /* an enum matrix_answer */
     int16_t value;
@@ -107,8 +107,8 @@ typedef struct matrix_range {
     int16_t greatest;
 } matrix_range;
 
-/* The value of a parameter in a patch, with its sign; 0 when refused. (That of a field out of range is
- * the outcome's.) */
+/* The value of a parameter in a patch, with its sign; 0 when refused. It is not outcome.value, which is
+ * that of a field out of range, and 0 when done. */
 typedef struct matrix_held {
     matrix_outcome outcome;
     int16_t value;
@@ -140,7 +140,8 @@ matrix_reading matrix_read(const uint8_t *s, size_t s_len, size_t place,
  * as many reports as there are and as the room takes, at most MATRIX_REPORTS. To go on, call again
  * from `next`. None made, with room for one, says that there are no more.
  * Written: five numbers for each report, start, end, answer, detail and value, at the start of the
- * room; matrix_listed_report takes them from there. Numbers behind them are kept. */
+ * room, a value below 0 as C converts it to size_t; matrix_listed_report takes them from there. Numbers
+ * behind them are kept. */
 matrix_listed matrix_reports(const uint8_t *s, size_t s_len, size_t place,
                              size_t *room, size_t room_len);
 
@@ -175,13 +176,15 @@ matrix_outcome matrix_show_name(const uint8_t *p, size_t p_len, uint8_t *out, si
 /* Applies a remote edit to a patch: a parameter, and seven bits of value. A signed parameter takes
  * `v & 0x7F` for a value v, any other takes v as it is. The bits alone do not tell whether v was in
  * range: 100 sent to parameter 1 stores E4H, which is -28, and answers 0. matrix_range_of tells the
- * least and the greatest value, by which v is to be tested before it is sent.
+ * least and the greatest value, by which v is to be tested before it is sent. An 11 may be the edit's
+ * or the patch's; matrix_test_patch tells which.
  * Answers: 8 and 11 for the edit, then 7, 11 and 12 for the patch as it was; 0.
  * Written: the parameter's byte with answer 0. */
 matrix_outcome matrix_apply_edit(uint8_t *p, size_t p_len, uint8_t parameter, uint8_t value);
 
 /* Applies a matrix modulation edit to a patch: a bus, 0 to 9, its source, 0 to 20, seven bits of
- * amount, `a & 0x7F` for an amount a, -64 to 63, and its destination, 0 to 32.
+ * amount, `a & 0x7F` for an amount a, -64 to 63, and its destination, 0 to 32. No seven bits of amount
+ * are refused: 100 stores E4H, which is -28. So test a before it is sent.
  * Answers: 8, 11 and 12 for the edit, then 7, 11 and 12 for the patch as it was; 0.
  * Written: the three bytes of the bus with answer 0. */
 matrix_outcome matrix_apply_bus_edit(uint8_t *p, size_t p_len,

@@ -11,7 +11,7 @@ use Rattle.answers.specs.declared.Outcome.{Outcome}
 abbrev pub outcomeAt : ℕ → ℕ → ℤ → Outcome
 outcomeAt a d v = record { answer = a; detail = d; value = v }
 
--- An answer and its detail: 'the value is 0 for other answers' than 11 (02 (vi)).
+-- An answer and its detail. The value is 0 with every answer but 11 (02 (vi)).
 abbrev pub outcome : ℕ → ℕ → Outcome
 outcome a d = outcomeAt a d (pos 0)
 

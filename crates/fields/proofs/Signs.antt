@@ -1,11 +1,42 @@
--- The values of the signed amounts, of detune and of the name: one test of the rows of each.
-use mathlib.Core.Path.{_≡_, refl}
+-- The values of the signed amounts, of detune and of the name: one test of the rows of each. Which fields have a sign, and what every byte is with
+-- and without one; what is told of a parameter's range.
+use mathlib.Core.Path.{_≡_, refl, _∙_}
+use mathlib.Core.Bool.{Bool, true, false, not, _&&_}
+use mathlib.Core.Option.{some}
 use Prim.Native.Nat.{ℕ, _+_, _-_, _*_, _≤_, _<_}
 use native.Mathlib.Omega.{arith}
-use Rattle.ranges.specs.Values.{plus, minus, valueOf, valueBy}
+use lib.Dec.{T}
+use lib.IntN.{ℤ, pos, negsuc}
+use lib.ListN.{length}
+use lib.Signed.{leZ}
+use borrow.Author.Tests.{lt-ltb, le-ltb, le-leb}
+use Rattle.ranges.specs.Ranges.{signedIn}
+use Rattle.ranges.specs.Values.{plus, minus, valueOf, valueBy, fromTo}
 use Rattle.ranges.specs.promises.Tables.{Goes}
+use Rattle.ranges.proofs.Below.{each, at}
 use Rattle.ranges.proofs.Tables.{each-goes}
-use Rattle.fields.specs.Fields.{fields}
+use Rattle.fields.specs.Fields.{fields, leastAt, greatestAt, inRange, valueAt, placeOf}
+use Rattle.fields.specs.Parameters.{ranging}
+use Rattle.fields.specs.promises.Rule.{hasSign, Reached}
+use Rattle.fields.proofs.Rules.{rows, fields-rule, found-place}
+
+-- Two tests that agree.
+abbrev agree : Bool → Bool → Bool
+agree true b = b
+agree false b = not b
+
+agreed : (a b : Bool) → T (agree a b) → a ≡ b
+agreed true true t = refl
+agreed true false t = absurd t
+agreed false true t = absurd t
+agreed false false t = refl
+
+both-true : (a b : Bool) → a ≡ true → b ≡ true → (a && b) ≡ true
+both-true a b p q = rw (p, q)
+
+le-self : (v : ℤ) → leZ v v ≡ true
+le-self (pos n) = le-leb n n (omega arith)
+le-self (negsuc n) = le-leb n n (omega arith)
 
 pub amount-goes : (k : ℕ) → 86 ≤ k → k < 104 → Goes fields k (minus 64) (plus 63)
 unfolding fields valueOf valueBy
@@ -20,3 +51,44 @@ detune-goes = (refl, refl)
 pub name-goes : (k : ℕ) → k < 8 → Goes fields k (plus 0) (plus 63)
 unfolding fields valueOf valueBy
 name-goes k h = let here : 0 + 1 * k ≡ k = omega arith in rw here at (each-goes fields (plus 0) (plus 63) 0 1 8 tt k h)
+
+-- One test of all rows: those that have a sign are the ones whose least byte is above the greatest.
+all-signs : T (each (λ k. agree (signedIn fields k) (hasSign k)) 134)
+unfolding fields
+all-signs = tt
+
+has-sign : (k : ℕ) → k < 134 → signedIn fields k ≡ hasSign k
+has-sign k h = agreed (signedIn fields k) (hasSign k) (at (λ k. agree (signedIn fields k) (hasSign k)) 134 all-signs k h)
+
+pub from-zero : (k n : ℕ) → k < 134 → hasSign k ≡ true → n < 128 → valueAt k n ≡ plus n
+unfolding valueBy valueOf
+from-zero k n h e l = rw (has-sign k h, e, lt-ltb n 0x80 l)
+
+pub below-zero : (k n : ℕ) → k < 134 → hasSign k ≡ true → 1 ≤ n → n ≤ 128 → valueAt k (256 - n) ≡ minus n
+unfolding valueBy valueOf
+below-zero k n h e l u =
+    let size : 256 - (256 - n) ≡ n = omega arith in
+    rw (has-sign k h, e, le-ltb (256 - n) 0x80 (omega arith), size)
+
+pub without-sign : (k b : ℕ) → k < 134 → hasSign k ≡ false → valueAt k b ≡ plus b
+unfolding valueBy
+without-sign k b h e = rw (has-sign k h, e)
+
+-- A parameter's range by its place.
+pub ranged : (n k b : ℕ) → placeOf n ≡ some k → b < 256 → let r = ranging n in inRange k b ≡ fromTo (r .least) (r .greatest) (valueAt k b)
+unfolding ranging
+ranged n k b e h = let l = found-place n k e .high in rw e (fields-rule .with-sign k b (omega (arith, rows)) h)
+
+pub reached : (n k : ℕ) → placeOf n ≡ some k → let r = ranging n in Reached k (r .least) × Reached k (r .greatest)
+unfolding ranging
+reached n k e =
+    let l = found-place n k e .high in
+    let inside : k < length fields = omega (arith, rows) in
+    let bytes = fields-rule .bytes k in
+    let ordered = fields-rule .ordered k inside in
+    let least = fields-rule .with-sign k (leastAt k) inside (bytes .0) in
+    let greatest = fields-rule .with-sign k (greatestAt k) inside (bytes .1) in
+    rw e (
+      (leastAt k, (least ∙ both-true _ _ (le-self (valueAt k (leastAt k))) ordered, refl)),
+      (greatestAt k, (greatest ∙ both-true _ _ ordered (le-self (valueAt k (greatestAt k))), refl)),
+    )

@@ -1,5 +1,4 @@
 -- What a caller who wants to set a field is told of its parameter.
-use mathlib.Core.List.{List, [], _∷_}
 use mathlib.Core.Option.{Option, none, some}
 use Prim.Native.Nat.{ℕ}
 use lib.IntN.{ℤ, pos}

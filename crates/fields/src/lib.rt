@@ -137,7 +137,7 @@ pub fn in_range(place: BytePlace, b: u8) -> bool
     std::num::wrapping_sub_u8(b, (range % 256) as u8) <= (range / 256) as u8
 }
 
-// The value of a byte at a place. The range of a signed field goes on from 255 to 0.
+// The value of a byte at a place. A field is signed where its range goes on from 255 to 0.
 pub fn value_at(place: BytePlace, b: u8) -> i16
     ensures { λ r. ⌜ r ≡ valueAt (place .0) b ⌝ }
 {

@@ -4,19 +4,19 @@ use mathlib.Core.List.{List, [], _∷_, _++_, append-assoc}
 use Prim.Native.Nat.{ℕ, suc, _+_, _*_, _-_, _<_, _≤_}
 use native.Mathlib.Nat.{add-zero}
 use native.Mathlib.Omega.{arith}
-use lib.ListN.{length, take, drop, getD, length-append}
+use lib.ListN.{length, drop, getD, length-append}
 use lib.Seq.{drop-cons, drop-drop}
 use Rattle.answers.specs.Lists.{All}
-use Rattle.text.specs.Text.{ascii, followed, signed, spaced}
+use Rattle.text.specs.Text.{ascii, followed}
 use Rattle.text.proofs.Spaced.{followed-most, signed-most, spaced-most}
 use Rattle.streams.specs.Stream.{Report}
-use Rattle.reading.specs.code.Rooms.{width, outcomeIn, flat, Tells}
+use Rattle.reading.specs.code.Rooms.{width, outcomeIn, flat, ReadsBack}
 use Rattle.listing.specs.Listing.{line, lines, total}
 use Rattle.listing.specs.code.Pieces.{leftBehind, leastRoom}
 use Rattle.listing.specs.code.Steps.{lineOf, linesOf}
 
 -- The lines of the numbers of reports whose values they tell are the reports' lines.
-pub lines-flat : (rs : List Report) (more : List ℕ) → All Tells rs → linesOf (length rs) (flat rs ++ more) ≡ lines rs
+pub lines-flat : (rs : List Report) (more : List ℕ) → All ReadsBack rs → linesOf (length rs) (flat rs ++ more) ≡ lines rs
 unfolding linesOf flat lines
 lines-flat [] more t = refl
 lines-flat (r ∷ rs) more t = rw (t .0, lines-flat rs more (t .1))

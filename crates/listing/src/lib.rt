@@ -1,5 +1,6 @@
 // The listing of an input, made piece by piece into lent room: a header, a line for each message with its start, end, answer, detail and
 // value, and a line with how many messages there are; or `input too long` alone. Begin with `Left::Whole` and write each piece, until nothing is left.
+use reading::listing::VALUE;
 use reading::listing::WIDTH;
 ghost use Prim.Native.Nat.{_*_, _≤_};
 ghost use lib.ListN.{length};
@@ -64,8 +65,8 @@ fn put_total(room: &mut [u8], at: usize, messages: usize) -> usize
 pub fn put_line(room: &mut [u8], at: usize, numbers: [usize; WIDTH]) -> usize
     ensures { λ r. ⌜ Puts (lineOf numbers) (now (room .entry)) at (now (room .exit)) r ⌝ }
 {
-    let end = text::put_spaced(room, at, &numbers[..WIDTH - 1]);
-    text::put_signed(room, end, numbers[WIDTH - 1], b'\n')
+    let end = text::put_spaced(room, at, &numbers[..VALUE]);
+    text::put_signed(room, end, numbers[VALUE], b'\n')
 }
 
 // The lines of `count` reports, whose numbers stand one behind the other.

@@ -144,7 +144,7 @@ module _ (k : Dump) (filed : Filed (ofDump k)) (patch : k .packed ≡ aPatch) (p
       let was : sum p ≡ (t + (c % 16 + 16 * (c / 16))) % 128 = rw e (omega (arith, sum-around p₁ c p₂)) in
       let is : sum (pack d) ≡ (t + (x + 16 * y)) % 128 = rw packed (sum-around p₁ (x + 16 * y) p₂) in
       let out : x ≡ c % 16 → MovedBy 8 (c / 16) y → firstOut (pack d) ≡ some (found (length p₁) (valueAt (length p₁) (c % 16 + 16 * y))) =
-          λ same m. rw (packed, same) (moved-byte p₁ c y p₂ e m) in
+      λ same m. rw (packed, same) (moved-byte p₁ c y p₂ e m) in
       rw (eq-eqb (length u % 2) 0 even, half)
       (nibbles-first u x y (nibbles p₂) (sum p) (nibblesRefusal (length p₁) (c % 16) (c % 16) (c / 16) x y) front
       (λ hx hy. nibbles-refused d (sum p) t (length p₁) (c % 16) (c % 16) (c / 16) x y

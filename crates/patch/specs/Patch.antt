@@ -67,9 +67,9 @@ abbrev pub heldRows : ℕ → List ℕ → List Row
 heldRows n p = parameterRow n ∷ patchRows p
 
 -- The value of the byte at a place of a patch.
-abbrev pub valueIn : Option ℕ → List ℕ → ℤ
-valueIn none p = pos 0
-valueIn (some k) p = valueAt k (getD p k 0)
+abbrev pub valueHeld : Option ℕ → List ℕ → ℤ
+valueHeld none p = pos 0
+valueHeld (some k) p = valueAt k (getD p k 0)
 
 abbrev pub heldBy : ℤ → Verdict → Held
 heldBy v (done o b p) = held (outcome 0 0) v
@@ -77,4 +77,4 @@ heldBy v (refused o) = notHeld o
 
 -- The value of a parameter in a lent patch.
 unfoldable pub holding : ℕ → List ℕ → Held
-holding n p = heldBy (valueIn (placeOf n) p) (first (heldRows n p) (done 0 [] []))
+holding n p = heldBy (valueHeld (placeOf n) p) (first (heldRows n p) (done 0 [] []))

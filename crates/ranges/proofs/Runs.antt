@@ -6,12 +6,13 @@ use mathlib.Core.Option.{Option, none, some}
 use Prim.Native.Nat.{ℕ, zero, suc, _+_, _-_, _≤_, _<_}
 use native.Mathlib.Nat.{add-zero}
 use native.Mathlib.Omega.{arith}
-use lib.Dec.{T}
+use lib.Dec.{T, eqb}
 use lib.ListN.{length, getD, set}
-use lib.IntN.{ℤ}
+use borrow.Author.Tests.{eqb-true, eqb-false}
 use Rattle.answers.specs.Lists.{All}
 use Rattle.answers.specs.Table.{Found, found}
 use Rattle.ranges.specs.Ranges.{Table, leastIn, greatestIn, inRow, valueIn, outFrom}
+use Rattle.ranges.specs.promises.Tables.{LowestOut}
 use Rattle.ranges.proofs.Below.{each, at}
 use Rattle.ranges.proofs.Between.{is-byte, narrow, MovedBy, moved-out}
 
@@ -21,7 +22,8 @@ module _ (t : Table) where
   unfolding outFrom
   one-in k b p e = go (inRow t k b) refl e
     where
-      go : (u : Bool) → inRow t k b ≡ u → cond u (outFrom t (suc k) p) (some (found k (valueIn t k b))) ≡ none → (inRow t k b ≡ true) × (outFrom t (suc k) p ≡ none)
+      go : (u : Bool) → inRow t k b ≡ u → cond u (outFrom t (suc k) p) (some (found k (valueIn t k b))) ≡ none
+          → (inRow t k b ≡ true) × (outFrom t (suc k) p ≡ none)
       go true q e = (q, e)
       go false q e = let z : _≡_ {A = ℕ} 0 1 = cc in absurd (omega arith)
 
@@ -65,35 +67,51 @@ module _ (t : Table) where
       let d = out-split (suc k) m a r (omega arith) (c .1) in
       (one-more-in k x a (c .0) (d .0), d .1)
 
-  -- A place that is found is one of the bytes'.
-  pub out-below : (k : ℕ) (p : List ℕ) (j : ℕ) (v : ℤ) → outFrom t k p ≡ some (found j v) → j < k + length p
+  -- The search finds the lowest place out of range: the first byte's, or it goes on behind an accepted one.
+  pub lowest-out : (k : ℕ) (p : List ℕ) → LowestOut t k p
   unfolding outFrom
-  out-below k [] j v e = let z : _≡_ {A = ℕ} 0 1 = cc in absurd (omega arith)
-  out-below k (b ∷ p) j v e = go (inRow t k b) e (out-below (suc k) p j v)
+  lowest-out k [] = record { some-out = λ j v e. let z : _≡_ {A = ℕ} 0 1 = cc in absurd (omega arith); none-out = λ e i l h. absurd (omega arith) }
+  lowest-out k (b ∷ p) = go (inRow t k b) refl (lowest-out (suc k) p)
     where
-      go : (u : Bool) → cond u (outFrom t (suc k) p) (some (found k (valueIn t k b))) ≡ some (found j v)
-          → (outFrom t (suc k) p ≡ some (found j v) → j < suc k + length p) → j < k + suc (length p)
-      go true e rest = let l = rest e in omega arith
-      go false e rest = let same : k ≡ j = cc in omega arith
+      next : (i : ℕ) → suc k ≤ i → i - k ≡ suc (i - suc k)
+      next i l = omega arith
 
-  -- The value that is found is that of the byte there.
-  pub out-value : (k : ℕ) (p : List ℕ) (j : ℕ) (v : ℤ) → outFrom t k p ≡ some (found j v) → (k ≤ j) × (v ≡ valueIn t j (getD p (j - k) 0))
-  unfolding outFrom
-  out-value k [] j v e = let z : _≡_ {A = ℕ} 0 1 = cc in absurd (omega arith)
-  out-value k (b ∷ p) j v e = go (inRow t k b) e (out-value (suc k) p j v)
-    where
-      go : (u : Bool) → cond u (outFrom t (suc k) p) (some (found k (valueIn t k b))) ≡ some (found j v)
-          → (outFrom t (suc k) p ≡ some (found j v) → (suc k ≤ j) × (v ≡ valueIn t j (getD p (j - suc k) 0)))
-          → (k ≤ j) × (v ≡ valueIn t j (getD (b ∷ p) (j - k) 0))
-      go true e rest =
-          let l = rest e in
-          let next : j - k ≡ suc (j - suc k) = omega (arith, l .0) in
-          (omega (arith, l .0), rw next (l .1))
-      go false e rest =
-          let here : k ≡ j = cc in
-          let same : valueIn t k b ≡ v = cc in
-          let first : j - k ≡ 0 = omega arith in
-          (omega arith, rw (first, ← here) (sym same))
+      -- A byte accepted at the first place, and what holds at those behind it.
+      from-here : inRow t k b ≡ true → (i : ℕ) → k ≤ i → (suc k ≤ i → inRow t i (getD p (i - suc k) 0) ≡ true) → inRow t i (getD (b ∷ p) (i - k) 0) ≡ true
+      from-here q i l later = by-place (eqb i k) refl
+        where
+          by-place : (u : Bool) → eqb i k ≡ u → inRow t i (getD (b ∷ p) (i - k) 0) ≡ true
+          by-place true r = let same = eqb-true i k r in let z : i - k ≡ 0 = omega arith in rw (z, same) q
+          by-place false r = let other = eqb-false i k r in let past : suc k ≤ i = omega arith in rw (next i past) (later past)
+
+      go : (u : Bool) → inRow t k b ≡ u → LowestOut t (suc k) p → LowestOut t k (b ∷ p)
+      go true q rest = record {
+        some-out = λ j v e.
+            let l = rest .some-out j v (rw q at e) in
+            record {
+              from = omega (arith, l .from);
+              below = omega (arith, l .below);
+              out = rw (next j (l .from)) (l .out);
+              before = λ i f h. from-here q i f (λ past. l .before i past h);
+              value = rw (next j (l .from)) (l .value);
+            };
+        none-out = λ e i f h. from-here q i f (λ past. rest .none-out (rw q at e) i past (omega arith));
+      }
+      go false q rest = record {
+        some-out = λ j v e.
+            let here : some (found k (valueIn t k b)) ≡ some (found j v) = rw q at e in
+            let same : k ≡ j = cc in
+            let told : valueIn t k b ≡ v = cc in
+            let z : j - k ≡ 0 = omega arith in
+            record {
+              from = omega arith;
+              below = omega arith;
+              out = rw (z, ← same) q;
+              before = λ i f h. absurd (omega arith);
+              value = rw (z, ← same) (sym told);
+            };
+        none-out = λ e. let here : some (found k (valueIn t k b)) ≡ none = rw q at e in let z : _≡_ {A = ℕ} 0 1 = cc in absurd (omega arith);
+      }
 
   -- Every row spans at most 128 bytes.
   abbrev pub narrow-row : ℕ → Bool

@@ -11,7 +11,7 @@ plus n = pos n
 abbrev pub minus : ℕ → ℤ
 minus n = negℤ (pos n)
 
--- Two's complement in eight bits: a byte below 80H is itself, another one stands for what it lacks to 256.
+-- Two's complement in eight bits: a byte below 80H is itself, another one stands for minus what it lacks to 256.
 unfoldable pub valueOf : ℕ → ℤ
 valueOf b = cond (ltb b 0x80) (plus b) (minus (256 - b))
 

@@ -35,8 +35,8 @@ pub fn value_by(signed: bool, b: u8) -> i16
     b as i16
 }
 
-// A byte lies between two bounds; where the least is above the greatest, the range goes on from 255 to 0. It is no further above the
-// least than the greatest is.
+// A byte lies between two bounds; where the least is above the greatest, the range goes on from 255 to 0. So the byte is no further above
+// the least than the greatest is.
 fn lies_between(least: u8, greatest: u8, b: u8) -> bool
     ensures { λ r. ⌜ r ≡ between least greatest b ⌝ }
 {

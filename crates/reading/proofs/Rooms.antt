@@ -9,6 +9,7 @@ use borrow.Rule.Slice.PartMut.{putMid}
 use lib.IntN.{ℤ}
 use mir.Syntax.{w16}
 use mir.Val.{SFits}
+use Rattle.answers.specs.Lists.{All}
 use Rattle.answers.specs.code.Numbers.{asNumber, ofNumber}
 use Rattle.answers.proofs.Lists.{to-end, then-part}
 use Rattle.answers.proofs.Signed.{number-back}
@@ -16,7 +17,7 @@ use Rattle.streams.specs.Bytes.{body}
 use Rattle.streams.specs.Stream.{Report, messageAt}
 use Rattle.streams.specs.code.Scan.{State, outside, inside, scan}
 use Rattle.messages.specs.Judge.{judge}
-use Rattle.reading.specs.code.Rooms.{numbersOf, width, flat, fitting, Tells, Holds, endOf, most, made, Makes}
+use Rattle.reading.specs.code.Rooms.{numbersOf, width, flat, fitting, ReadsBack, Holds, endOf, most, made, Makes, StandIn, RoomTells}
 use Rattle.reading.specs.code.Told.{reportOf}
 use Rattle.reading.specs.declared.walking.Report.{Report as Numbers}
 
@@ -52,7 +53,7 @@ abbrev pub PartHolds : List ℕ → List Report → List ℕ → ℕ → Type 0
 PartHolds xs rs ys k = let part = take (length xs - width) (drop width xs) in Holds (fitting part rs) part ys k
 
 -- One report at the start, and the others in the part behind it.
-module _ (r : Report) (rs : List Report) (old xs : List ℕ) (h : width ≤ length old) (e : xs ≡ numbersOf r ++ drop width old) (tells : Tells r) where
+module _ (r : Report) (rs : List Report) (old xs : List ℕ) (h : width ≤ length old) (e : xs ≡ numbersOf r ++ drop width old) (tells : ReadsBack r) where
   rest : ℕ
   rest = (length old - width) / width
 
@@ -85,7 +86,7 @@ module _ (r : Report) (rs : List Report) (old xs : List ℕ) (h : width ≤ leng
 
 -- The scan gives a message's report, then goes on at place q behind the byte that ended the body, n bytes on, in a state st.
 module _ (s : List ℕ) (f : ℕ) (old xs : List ℕ) (h : width ≤ length old) (e : xs ≡ numbersOf (messageAt judge f s) ++ drop width old)
-    (tells : Tells (messageAt judge f s)) where
+    (tells : ReadsBack (messageAt judge f s)) where
   pub lists-on : (n : ℕ) → n ≡ length (body s) → (st : ℕ → State) (q : ℕ) → q ≡ suc (f + 1 + n)
       → scan judge (suc f) (inside f []) s
       ≡ messageAt judge f s ∷ scan judge (suc (suc f + length (body s))) (st (suc f + length (body s))) (drop (length (body s) + 1) s)
@@ -96,7 +97,7 @@ module _ (s : List ℕ) (f : ℕ) (old xs : List ℕ) (h : width ≤ length old)
       rw on (lists-more (messageAt judge f s) _ old xs h e tells ys k (rw (to-end (n + 1) s, next, index, place) at l))
 
 -- One report and no other.
-pub lists-one : (r : Report) (old xs : List ℕ) → width ≤ length old → xs ≡ numbersOf r ++ drop width old → Tells r
+pub lists-one : (r : Report) (old xs : List ℕ) → width ≤ length old → xs ≡ numbersOf r ++ drop width old → ReadsBack r
     → Holds (fitting old (r ∷ [])) old xs 1
 unfolding flat
 lists-one r old xs h e tells =
@@ -110,13 +111,8 @@ part-fits xs rs {ys} {k} l =
     let part = take (length xs - width) (drop width xs) in
     omega (arith, l .count, take-most (length part / width) rs, ap length (to-end width xs), length-drop width xs)
 
--- A report's numbers as the code has them.
-pub same-numbers : (m : Report) (r : Numbers) → r ≡ reportOf m
-    → r .start ∷ r .end ∷ r .outcome .answer ∷ r .outcome .detail ∷ asNumber (r .outcome .value) ∷ [] ≡ numbersOf m
-same-numbers m r e = rw e
-
--- Its value, which the code has in 16 bits, is told.
-pub value-told : (m : Report) (r : Numbers) → r ≡ reportOf m → SFits w16 (r .outcome .value) → Tells m
+-- A report's value, which the code has in 16 bits, is told.
+pub value-told : (m : Report) (r : Numbers) → r ≡ reportOf m → SFits w16 (r .outcome .value) → ReadsBack m
 value-told m r e f = subst (λ (v : ℤ). ofNumber (asNumber v) ≡ v) (ap (λ (x : Numbers). x .outcome .value) e) (number-back (r .outcome .value) f)
 
 -- At most 8 of the reports, from a larger room of which the first part was lent, and from a smaller one.
@@ -192,3 +188,13 @@ module _ (s : List ℕ) (place : ℕ) (old new : List ℕ) (n : ℕ) (f : Holds 
   made-fits =
       let rs = scan judge place outside (drop place s) in
       omega (arith, f .count, take-le most (take (length old / width) rs), take-most (length old / width) rs)
+
+-- What stands in the room is read back, report by report.
+stand-in : (rs : List Report) (more : List ℕ) → All ReadsBack rs → StandIn rs (flat rs ++ more)
+unfolding flat
+stand-in [] more a = tt
+stand-in (r ∷ rs) more a = (rw (a .0), stand-in rs more (a .1))
+
+pub room-tells : RoomTells
+room-tells s place old new r m =
+    rw (m .holds .numbers) (stand-in (made s place old) (drop (width * length (made s place old)) old) (m .holds .values))

@@ -2,12 +2,12 @@
 use crate::walking::Report;
 use crate::walking::report_at;
 ghost use mathlib.Core.Path.{_≡_};
-ghost use mathlib.Core.List.{[], _∷_, _++_};
+ghost use mathlib.Core.List.{_++_};
 ghost use Prim.Native.Nat.{_+_, _^_, _<_, _≤_};
 ghost use lib.ListN.{length, drop};
-ghost use Rattle.answers.specs.code.Numbers.{asNumber};
 ghost use Rattle.streams.specs.code.Scan.{outside, scan};
 ghost use Rattle.messages.specs.Judge.{judge};
+ghost use Rattle.reading.specs.code.Told.{numbersTold};
 ghost use Rattle.reading.specs.code.Rooms.{width, fitting, reportsInside, made, Holds, Makes};
 
 // How many reports were made, and the place from which to go on.
@@ -20,6 +20,9 @@ pub struct Listed {
 // How many numbers a report has.
 pub const WIDTH: usize = 5;
 
+// Where the value stands among them.
+pub const VALUE: usize = 4;
+
 // One call makes at most so many reports, which bounds how many calls of the two states are under way.
 pub const MOST: usize = 8;
 
@@ -29,13 +32,13 @@ const ROOM: usize = MOST * WIDTH;
 // A report's numbers, the value in two's complement. Its caller has seen that they fit.
 fn put_report(r: Report, room: &mut [usize])
     requires { ⌜ width ≤ length (now room) ⌝ }
-    ensures { λ _. ⌜ now (room .exit) ≡ (r .start ∷ r .end ∷ r .outcome .answer ∷ r .outcome .detail ∷ asNumber (r .outcome .value) ∷ []) ++ drop width (now (room .entry)) ⌝ }
+    ensures { λ _. ⌜ now (room .exit) ≡ numbersTold r ++ drop width (now (room .entry)) ⌝ }
 {
     room[0] = r.start;
     room[1] = r.end;
     room[2] = r.outcome.answer as usize;
     room[3] = r.outcome.detail;
-    room[4] = answers::as_number(r.outcome.value);
+    room[VALUE] = answers::as_number(r.outcome.value);
 }
 
 // Outside a message: on to the next F0H, if there is room for one more report.

@@ -1,7 +1,6 @@
-// Text in ASCII, put into lent room from a place on: bytes, numbers in decimal with and without a sign. Each routine puts as many bytes as there is
-// room for, keeps the room's other bytes, and answers the place behind what it put. So routines called one behind the other, each from the
+// Text in ASCII, put into lent room from a place on: bytes, numbers in decimal with and without a sign. Each routine puts as many bytes as
+// there is room for, keeps the room's other bytes, and answers the place behind what it put. So routines called one behind the other, each from the
 // place that the last one answered, put their texts joined.
-ghost use mathlib.Core.Path.{_≡_};
 ghost use mathlib.Core.List.{[], _∷_};
 ghost use Rattle.answers.specs.code.Numbers.{ofNumber};
 ghost use Rattle.text.specs.Text.{followed, signed, spaced, Puts};

@@ -9,25 +9,26 @@ use Prim.Native.Nat.{ℕ, zero, suc, _+_, _*_, _/_, _%_, _<_, _≤_}
 use native.Mathlib.Decide.{decLe}
 use native.Mathlib.Omega.{arith}
 use lib.Dec.{eqb, leb, ltb}
-use lib.IntN.{ℤ}
+use lib.IntN.{ℤ, pos}
 use lib.ListN.{length, take, drop, length-map, length-set, drop-of-length-le}
 use lib.Seq.{drop-at, drop-append-seam, drop-drop}
 use borrow.Author.Tests.{eqb-true, leb-true, leb-false, le-ltb, lt-ltb}
 use Rattle.answers.specs.declared.Outcome.{Outcome}
 use Rattle.answers.specs.Table.{Row, row, says, Verdict, done, refused, first, outcome, outcomeOf, four}
+use Rattle.answers.specs.Lists.{All}
 use Rattle.answers.specs.Effect.{Effect, tested}
-use Rattle.answers.proofs.Lists.{all-append, all-weaken}
+use Rattle.answers.proofs.Lists.{all-append, all-take, all-weaken}
 use Rattle.answers.proofs.Rows.{IsRefusal, Refusals, both-refusals, Heard, nothing, something, heard, first-append, first-passed}
 use Rattle.answers.proofs.Rows.{passed-over, done-passed, given-first, first-given, row-equal, first-number, tested-passed, decides}
 use Rattle.answers.proofs.Effects.{changed-decides, changed-keeps, written-decides, written-keeps}
 use Rattle.answers.specs.promises.Decides.{Decides, Keeps, Silent}
 use Rattle.streams.specs.Bytes.{body}
 use Rattle.streams.specs.Stream.{Report, Reading, packedIn, readInto, readReport, messageAt, firstFrom, walk, read, reportsFrom}
-use Rattle.streams.proofs.Walk.{reread-from}
+use Rattle.streams.proofs.Walk.{reread-from, reports-of}
 use Rattle.streams.proofs.Lent.{reading-keeps}
 use Rattle.nibbles.specs.Nibbles.{nibbles, pack, nibbleRows, packing, unpacking}
-use Rattle.fields.specs.Parameters.{parameterRow, ranging}
-use Rattle.patch.specs.Patch.{fieldRows, patchRows, heldRows, valueIn, heldBy, holding}
+use Rattle.fields.specs.Parameters.{parameterRow, rangeFor, ranging}
+use Rattle.patch.specs.Patch.{fieldRows, patchRows, heldRows, valueHeld, heldBy, holding}
 use Rattle.patch.proofs.Tests.{field-refusals, patch-refusals}
 use Rattle.names.specs.Names.{stored, shown, nameRows, naming, showing}
 use Rattle.ranges.specs.Ranges.{countedRows}
@@ -40,6 +41,7 @@ use Rattle.messages.specs.code.Sizes.{lentRows}
 use Rattle.messages.specs.Layout.{message, givenRows}
 use Rattle.messages.proofs.Numbers.{IsDone, made, record-done, message-refusals, given-refusals, packed-refusals, operand-refusals}
 use Rattle.reading.specs.code.Told.{reportOr, walked, reads}
+use Rattle.reading.specs.code.Rooms.{width, most, made as madeIn}
 use Rattle.writing.specs.declared.BankOutcome.{BankOutcome}
 use Rattle.writing.specs.Writing.{writingBank, bankBytes, firstBad, orLater, unlessBad}
 use Rattle.theorems.specs.Answers.{fromStart, found, complete, recordIn, opcodeIn, walkRows, thenRoom}
@@ -426,12 +428,28 @@ range-answered n = decides (parameterRow n ∷ []) 0 [] [] _ (omega arith) (by-p
     by-place none q = rw q
     by-place (some k) q = rw q
 
+no-range : (n : ℕ) → let r = ranging n in (r .outcome .answer ≡ 0 → ⊥) → (r .least ≡ pos 0) × (r .greatest ≡ pos 0)
+unfolding ranging
+no-range n = by-place (placeOf n)
+  where
+    by-place : (o : Option ℕ) → (rangeFor o .outcome .answer ≡ 0 → ⊥) → (rangeFor o .least ≡ pos 0) × (rangeFor o .greatest ≡ pos 0)
+    by-place none n = (refl, refl)
+    by-place (some k) n = absurd (n refl)
+
+not-held : (v : ℤ) (w : Verdict) → (heldBy v w .outcome .answer ≡ 0 → ⊥) → heldBy v w .value ≡ pos 0
+not-held v (done o b p) n = absurd (n refl)
+not-held v (refused o) n = refl
+
+held-nothing : (n : ℕ) (p : List ℕ) → let h = holding n p in (h .outcome .answer ≡ 0 → ⊥) → h .value ≡ pos 0
+unfolding holding
+held-nothing n p = not-held (valueHeld (placeOf n) p) (first (heldRows n p) (done 0 [] []))
+
 held-answered : (n : ℕ) (p : List ℕ) → Decides (heldRows n p) 0 (holding n p .outcome)
 unfolding holding
 held-answered n p = decides (heldRows n p) 0 [] [] _ (omega arith, patch-refusals p) (by-rows (heldRows n p))
   where
     held : ℤ
-    held = valueIn (placeOf n) p
+    held = valueHeld (placeOf n) p
 
     by-rows : (rows : List Row) → heldBy held (first rows (done 0 [] [])) .outcome ≡ outcomeOf (first rows (done 0 [] []))
     by-rows [] = refl
@@ -441,6 +459,13 @@ held-answered n p = decides (heldRows n p) 0 [] [] _ (omega arith, patch-refusal
             → heldBy held (first (r ∷ rows) (done 0 [] [])) .outcome ≡ outcomeOf (first (r ∷ rows) (done 0 [] []))
         go (nothing q) i = rw q i
         go (something o q) i = rw q
+
+-- What holds of every report from a place on holds of those that one call makes.
+pub made-all : (P : Report → Type 0) (s : List ℕ) (place : ℕ) (room : List ℕ) → All P (reportsFrom judge (length s) s place) → All P (madeIn s place room)
+unfolding madeIn
+made-all P s place room a =
+    let from = reportsFrom judge (length s) s place in
+    rw (← (reports-of judge s .by-states place)) (all-take P most (take (length room / width) from) (all-take P (length room / width) from a))
 
 pub demand-1 : Demand1
 unfolding showing packing unpacking judge
@@ -462,6 +487,8 @@ demand-1 = record {
   test = λ p. decides (patchRows p) 0 [] [] _ (patch-refusals p) refl;
   range = range-answered;
   held = held-answered;
+  range-refused = no-range;
+  held-refused = held-nothing;
   test-edit = λ n v. decides (editRows n v) 0 [] [] _ (edit-refusals n v) refl;
   test-bus-edit = λ b s a d. decides (busRows b s a d) 0 [] [] _ (bus-refusals b s a d) refl;
   test-packed = λ q p. decides (lentRows q p) 0 [] [] _ (omega arith, packed-refusals q p) refl;

@@ -1,26 +1,27 @@
 -- What was found is told: an outcome that rows decide is said by one of them, and each row that says 11 says the value that stands at its place.
-use mathlib.Core.Path.{_≡_, refl, ap, sym, _∙_, subst}
+use mathlib.Core.Path.{_≡_, refl, sym, _∙_, subst}
 use mathlib.Core.Bool.{Bool, true, false, not}
 use mathlib.Core.List.{List, [], _∷_, _++_}
 use mathlib.Core.Logic.{⊎-elim}
 use mathlib.Core.Option.{Option, none, some}
 use Prim.Native.Nat.{ℕ, zero, suc, _-_, _/_}
 use native.Mathlib.Omega.{arith}
-use lib.Dec.{T, eqb, eqb→eq}
+use lib.Dec.{T, eqb}
 use lib.IntN.{ℤ, pos}
 use lib.ListN.{length, getD, take, drop}
 use borrow.Author.Tests.{eqb-true, eqb-false}
 use Rattle.answers.specs.declared.Outcome.{Outcome}
 use Rattle.answers.specs.Lists.{All}
-use Rattle.answers.specs.Table.{Row, row, rowAt, rowFound, Found, found, numberOf, says, outcome, outcomeAt, outcomeOf, done, first}
+use Rattle.answers.specs.Table.{Row, row, rowAt, rowFound, Found, found, says, outcome, outcomeAt, outcomeOf}
 use Rattle.answers.specs.Effect.{tested}
 use Rattle.answers.specs.promises.Decides.{Decides}
 use Rattle.answers.proofs.Lists.{all-append, all-at, all-weaken}
 use Rattle.answers.proofs.Rows.{Refusals, both-refusals, is-first, tested-stopped, tested-passed-on, decides}
-use Rattle.streams.specs.Stream.{packedIn, reportsFrom}
+use Rattle.streams.specs.Stream.{Report, packedIn, reportsFrom}
+use Rattle.reading.specs.code.Rooms.{made}
 use Rattle.nibbles.specs.Nibbles.{pack}
 use Rattle.ranges.specs.Ranges.{Table, outFrom, outBy, valueIn}
-use Rattle.ranges.proofs.Runs.{out-below, out-value}
+use Rattle.ranges.proofs.Runs.{lowest-out}
 use Rattle.fields.specs.Fields.{size, fields, valueAt, placeOf}
 use Rattle.patch.specs.Patch.{sourceAt, fieldRows, patchRows}
 use Rattle.patch.proofs.Tests.{field-refusals, patch-refusals}
@@ -39,7 +40,7 @@ use Rattle.writing.specs.declared.BankOutcome.{BankOutcome}
 use Rattle.writing.specs.Writing.{writingBank}
 use Rattle.theorems.specs.Answers.{found as foundIn, complete, walkRows, thenRoom, patchesRows, bankTable, patchAt, PlaceOf, refused-patch, no-patch}
 use Rattle.theorems.specs.Found.{Tells, inPatch, standing, storing, bringing, broughtBy, SaysWhatWasFound}
-use Rattle.theorems.proofs.Answers.{demand-1}
+use Rattle.theorems.proofs.Answers.{demand-1, made-all}
 
 -- What a row says is so.
 record Says (P : Outcome → Type 0) (r : Row) : Type 0 where
@@ -85,7 +86,7 @@ eleven value none h = record { so = λ o e. let z : _≡_ {A = ℕ} 0 1 = cc in 
 by-table : (t : Table) (p : List ℕ) → RowTells (λ k. valueIn t k (getD p k 0)) (rowFound 11 (outFrom t 0 p))
 by-table t p =
     eleven (λ k. valueIn t k (getD p k 0)) (outFrom t 0 p)
-    (λ k v e. let here : k - 0 ≡ k = omega arith in rw here at (out-value t 0 p k v e .1))
+    (λ k v e. let here : k - 0 ≡ k = omega arith in rw here at (lowest-out t 0 p .some-out k v e .value))
 
 fields-tell : (p : List ℕ) → All (RowTells (inPatch p)) (fieldRows p)
 fields-tell p = (by-table fields p, (plain-at (inPatch p) 12 tt _, tt))
@@ -93,12 +94,12 @@ fields-tell p = (by-table fields p, (plain-at (inPatch p) 12 tt _, tt))
 patch-tells : (p : List ℕ) → All (RowTells (inPatch p)) (patchRows p)
 patch-tells p = (plain (inPatch p) 7 tt _, fields-tell p)
 
+by-shape : (t : Option Table) (p : List ℕ) → RowTells (standing t p) (rowFound 11 (outBy t p))
+by-shape none p = eleven (standing none p) none (λ k v e. let z : _≡_ {A = ℕ} 0 1 = cc in absurd (omega arith))
+by-shape (some t) p = by-table t p
+
 packed-tell : (q : Packed) (p : List ℕ) → All (RowTells (standing (shapeOf q .table) p)) (packedRows q p)
-packed-tell q p = (by-shape (shapeOf q .table), (plain-at (standing (shapeOf q .table) p) 12 tt _, tt))
-  where
-    by-shape : (t : Option Table) → RowTells (standing t p) (rowFound 11 (outBy t p))
-    by-shape none = eleven (standing none p) none (λ k v e. let z : _≡_ {A = ℕ} 0 1 = cc in absurd (omega arith))
-    by-shape (some t) = by-table t p
+packed-tell q p = (by-shape (shapeOf q .table) p, (plain-at (standing (shapeOf q .table) p) 12 tt _, tt))
 
 -- One byte at its place.
 stored-tells : (o : Option ℕ) (b : ℕ) → RowTells (λ k. valueAt k b) (rowFound 11 (outAt o b))
@@ -106,18 +107,19 @@ stored-tells none b = eleven (λ k. valueAt k b) none (λ k v e. let z : _≡_ {
 stored-tells (some k) b =
     eleven (λ k. valueAt k b) (outFrom fields k (b ∷ []))
     (λ j v e.
-    let found = out-value fields k (b ∷ []) j v e in
-    let first : j - k ≡ 0 = omega (arith, out-below fields k (b ∷ []) j v e, found .0) in
-    rw first at (found .1))
+    let l = lowest-out fields k (b ∷ []) .some-out j v e in
+    let first : j - k ≡ 0 = omega (arith, l .from, l .below) in
+    rw first at (l .value))
 
 operands-tell : (o : Operands) (b : List ℕ) → All (RowTells (storing o b)) (operandRows o b)
 unfolding editRows busRows
 operands-tell anEdit b =
     (plain (storing anEdit b) 8 tt _, (stored-tells (placeOf (getD b 0 0)) (storedFor (getD b 0 0) (getD b 1 0)), tt))
 operands-tell aBusEdit b =
-    (plain (storing aBusEdit b) 8 tt _,
-    (eleven (storing aBusEdit b) (outFrom fields (sourceAt (getD b 0 0)) (getD b 1 0 ∷ extended (getD b 2 0) ∷ getD b 3 0 ∷ []))
-    (λ k v e. out-value fields (sourceAt (getD b 0 0)) (getD b 1 0 ∷ extended (getD b 2 0) ∷ getD b 3 0 ∷ []) k v e .1), (plain-at (storing aBusEdit b) 12 tt _, tt)))
+    let v = storing aBusEdit b in
+    let at = sourceAt (getD b 0 0) in
+    let bytes = getD b 1 0 ∷ extended (getD b 2 0) ∷ getD b 3 0 ∷ [] in
+    (plain v 8 tt _, (eleven v (outFrom fields at bytes) (λ k w e. lowest-out fields at bytes .some-out k w e .value), (plain-at v 12 tt _, tt)))
 
 kind-tells : (k : Kind) (m : List ℕ) → All (RowTells (bringing k (bytesIn (recordOf k m)) (packedIn (recordOf k m)))) (kindRows k m)
 unfolding dataRows packedOf
@@ -153,11 +155,11 @@ room-tells value rows n out a = all-append (RowTells value) rows _ a (plain valu
 edited : (value : ℕ → ℤ) (rows : List Row) (p : List ℕ) {o : Outcome} → Refusals rows → All (RowTells value) rows → Decides (rows ++ patchRows p) 0 o
     → ((tested rows .answer ≡ 0 → ⊥) → Tells value o) × (tested rows .answer ≡ 0 → Tells (inPatch p) o)
 edited value rows p r a c =
+    let patch = decided (inPatch p) (patchRows p) (patch-tells p) (demand-1 .test p) in
     let own : Decides rows 0 (tested rows) = decides rows 0 [] [] _ r refl in
-    let is = is-first (rows ++ patchRows p) 0 _ (both-refusals rows (patchRows p) r (patch-refusals p)) c in
-    (
+    let is = is-first (rows ++ patchRows p) 0 _ (both-refusals rows (patchRows p) r (patch-refusals p)) c in (
       (λ n. subst (Tells value) (sym (is ∙ tested-stopped rows (patchRows p) n)) (decided value rows a own)),
-      (λ z. subst (Tells (inPatch p)) (sym (is ∙ tested-passed-on rows (patchRows p) r z)) (decided (inPatch p) (patchRows p) (patch-tells p) (demand-1 .test p))),
+      (λ z. subst (Tells (inPatch p)) (sym (is ∙ tested-passed-on rows (patchRows p) r z)) patch),
     )
 
 -- No row of a bank's table says a value with another answer than 11.
@@ -183,11 +185,10 @@ bank-tells ps out = by-place (demand-1 .bank-place ps out)
     value = inPatch (patchAt (b .place) ps)
 
     rest : All (Says Other) (bankTable ps out)
-    rest =
-        (
-          others value (_ ∷ []) (plain value 7 tt _, tt) .0,
-          all-append (Says Other) (patchesRows (length ps / size) ps) _ (patches-other (length ps / size) ps) (others value (_ ∷ []) (plain value 13 tt _, tt)),
-        )
+    rest = (
+      others value (_ ∷ []) (plain value 7 tt _, tt) .0,
+      all-append (Says Other) (patchesRows (length ps / size) ps) _ (patches-other (length ps / size) ps) (others value (_ ∷ []) (plain value 13 tt _, tt)),
+    )
 
     not-11 : (n : ℕ) → T (not (eqb n 11)) → b .outcome .answer ≡ n → Tells value (b .outcome)
     not-11 n t e =
@@ -200,19 +201,32 @@ bank-tells ps out = by-place (demand-1 .bank-place ps out)
         subst (Tells value) (sym e) (decided value (fieldRows p) (fields-tell p) (decides (fieldRows p) 0 [] [] _ (field-refusals p) refl))
     by-place (no-patch z a) = ⊎-elim (not-11 0 tt) (⊎-elim (not-11 7 tt) (not-11 13 tt)) a
 
+-- Each report, and each that one call makes.
+abbrev Reported : List ℕ → Report → Type 0
+Reported s r = Tells (broughtBy (complete (foundIn s (r .start)))) (outcomeOf (r .verdict))
+
+reported : (s : List ℕ) (place : ℕ) → All (Reported s) (reportsFrom judge (length s) s place)
+reported s place =
+    all-weaken _ (Reported s) (λ r c. decided _ (walkRows (foundIn s (r .start))) (walk-tells (foundIn s (r .start))) c)
+    (reportsFrom judge (length s) s place) (demand-1 .reports-each s place)
+
+reported-made : (s : List ℕ) (place : ℕ) (room : List ℕ) → All (Reported s) (made s place room)
+reported-made s place room = made-all (Reported s) s place room (reported s place)
+
 pub says-what-was-found : SaysWhatWasFound
 says-what-was-found =
     let d = demand-1 in
     record {
       walk = λ s place. decided _ (walkRows (foundIn s place)) (walk-tells (foundIn s place)) (d .walk s place);
-      reports-each = λ s place.
-          all-weaken _ _ (λ r c. decided _ (walkRows (foundIn s (r .start))) (walk-tells (foundIn s (r .start))) c)
-          (reportsFrom judge (length s) s place) (d .reports-each s place);
+      reports-each = reported;
       read = λ s place lent.
           let rows = walkRows (foundIn s place) in
           decided _ (thenRoom rows _ lent) (room-tells _ rows _ lent (walk-tells (foundIn s place))) (d .read s place lent .decides);
+      reports-made = reported-made;
       judges = λ m. decided _ (messageRows m) (message-tells m) (d .judges m);
-      write = λ k b p out. decided _ (thenRoom (givenRows k b p) _ out) (room-tells _ (givenRows k b p) _ out (given-tells k b p)) (d .write k b p out .decides);
+      write = λ k b p out.
+          let rows = givenRows k b p in
+          decided _ (thenRoom rows _ out) (room-tells _ rows _ out (given-tells k b p)) (d .write k b p out .decides);
       bank = bank-tells;
       test = λ p. decided _ (patchRows p) (patch-tells p) (d .test p);
       set-name = λ p text.
@@ -220,6 +234,12 @@ says-what-was-found =
           decided v _ (plain v 7 tt _, (plain v 7 tt _, (plain v 8 tt _, fields-tell p))) (d .set-name p text .decides);
       show-name = λ p out. decided _ (thenRoom (patchRows p) _ out) (room-tells _ (patchRows p) _ out (patch-tells p)) (d .show-name p out .decides);
       held = λ n p. decided _ _ (plain (inPatch p) 8 tt _, patch-tells p) (d .held n p);
+      test-edit = λ n v. decided _ (editRows n v) (operands-tell anEdit (n ∷ v ∷ [])) (d .test-edit n v);
+      test-bus-edit = λ b s a t. decided _ (busRows b s a t) (operands-tell aBusEdit (b ∷ s ∷ a ∷ t ∷ [])) (d .test-bus-edit b s a t);
+      test-operands = λ o b. decided _ _ (plain (storing o b) 7 tt _, operands-tell o b) (d .test-operands o b);
+      test-packed = λ q p. decided _ _ (plain (standing (shapeOf q .table) p) 7 tt _, packed-tell q p) (d .test-packed q p);
+      test-table = λ n t p. decided _ _ (plain (standing t p) 7 tt _, (by-shape t p, tt)) (d .test-table n t p);
       edit = λ n v p. edited _ (editRows n v) p (edit-refusals n v) (operands-tell anEdit (n ∷ v ∷ [])) (d .edit n v p .decides);
-      bus-edit = λ b s a t p. edited _ (busRows b s a t) p (bus-refusals b s a t) (operands-tell aBusEdit (b ∷ s ∷ a ∷ t ∷ [])) (d .bus-edit b s a t p .decides);
+      bus-edit = λ b s a t p.
+          edited _ (busRows b s a t) p (bus-refusals b s a t) (operands-tell aBusEdit (b ∷ s ∷ a ∷ t ∷ [])) (d .bus-edit b s a t p .decides);
     }

@@ -3,7 +3,7 @@
 use mathlib.Core.Path.{_≡_, refl, ap, subst, fun-ext}
 use mathlib.Core.Bool.{Bool, true, false, not}
 use mathlib.Core.List.{List, [], _∷_, _++_, map, append-nil}
-use Prim.Native.Nat.{ℕ, _/_}
+use Prim.Native.Nat.{ℕ}
 use native.Mathlib.Omega.{arith}
 use lib.Dec.{eqb, leb, ltb}
 use lib.ListN.{length, take, getD}
@@ -12,10 +12,9 @@ use Rattle.answers.specs.Table.{Row, row, Verdict, done, refused, first, outcom
 use Rattle.answers.specs.Effect.{tested, changed, atStart, written}
 use Rattle.answers.specs.promises.Decides.{Decides}
 use Rattle.answers.specs.Lists.{All}
-use Rattle.answers.proofs.Lists.{all-take, all-weaken}
+use Rattle.answers.proofs.Lists.{all-weaken}
 use Rattle.answers.proofs.Rows.{Refusals, both-refusals, decides-number}
 use Rattle.streams.specs.Stream as stream
-use Rattle.streams.proofs.Walk.{reports-of}
 use Rattle.patch.specs.Patch.{patchRows}
 use Rattle.patch.proofs.Tests.{patch-refusals}
 use Rattle.names.specs.Names.{shown}
@@ -31,11 +30,11 @@ use Rattle.messages.specs.Kinds.{maker, device, kindOf, countOf, lengthOf, isUn
 use Rattle.messages.specs.Judge.{byteAt, operandRows, lentOperandRows, bytesFrom, kindRows, recordOf, judge}
 use Rattle.messages.specs.Layout.{message, givenRows}
 use Rattle.messages.proofs.Numbers.{message-refusals, given-refusals, operand-refusals}
-use Rattle.reading.specs.code.Rooms.{width, most, made}
+use Rattle.reading.specs.code.Rooms.{made}
 use Rattle.writing.specs.Writing.{writing}
 use Rattle.theorems.specs.Answers.{found, walkRows}
 use Rattle.theorems.specs.Withdrawn.{Not14, NoInputGives14, formerShort, formerly, formerJudge, formerWriting, formerApplyingBus, Withdrawn}
-use Rattle.theorems.proofs.Answers.{walk-refusals, room-refusals, bank-table-refusals, demand-1}
+use Rattle.theorems.proofs.Answers.{walk-refusals, room-refusals, bank-table-refusals, demand-1, made-all}
 
 -- What rows of refusals decide is not 14.
 not-14 : (rows : List Row) (detail : ℕ) (o : Outcome) → Refusals rows → Decides rows detail o → Not14 o
@@ -51,11 +50,7 @@ reported s place =
     (demand-1 .reports-each s place)
 
 reported-made : (s : List ℕ) (place : ℕ) (room : List ℕ) → All ReportNot14 (made s place room)
-unfolding made
-reported-made s place room =
-    let from = stream.reportsFrom judge (length s) s place in
-    rw (← (reports-of judge s .by-states place))
-    (all-take ReportNot14 most (take (length room / width) from) (all-take ReportNot14 (length room / width) from (reported s place)))
+reported-made s place room = made-all ReportNot14 s place room (reported s place)
 
 -- Nor is what is recorded of a message that is not 14: 13 may come of it.
 recorded : (f e : ℕ) (v : Verdict) (lent : List ℕ) → Not14 (outcomeOf v) → Not14 (stream.readInto f e v lent .result .outcome)

@@ -1,4 +1,4 @@
--- Demand 1: the answer and the detail of every routine that may refuse are those of the first row of its table that holds, done exactly when none
+-- Demand 1: the answer, detail and value of every routine that may refuse are those of the first row of its table that holds, done exactly when none
 -- does; refused, every lent byte is the same, and done, those behind the output are.
 use mathlib.Core.Path.{_≡_}
 use mathlib.Core.Bool.{Bool, true, false, cond, not, _||_}
@@ -7,6 +7,7 @@ use mathlib.Core.Logic.{_⊎_}
 use mathlib.Core.Option.{Option}
 use Prim.Native.Nat.{ℕ, zero, suc, _*_, _/_, _%_, _<_}
 use lib.Dec.{eqb, ltb}
+use lib.IntN.{pos}
 use lib.ListN.{length, take, drop, getD}
 use Rattle.answers.specs.declared.Outcome.{Outcome}
 use Rattle.answers.specs.Lists.{All}
@@ -124,6 +125,9 @@ pub record Demand1 : Type 0 where
   -- the range of a parameter, and its value in a patch
   pub range : (parameter : ℕ) → Decides (parameterRow parameter ∷ []) 0 (ranging parameter .outcome)
   pub held : (parameter : ℕ) (p : List ℕ) → Decides (heldRows parameter p) 0 (holding parameter p .outcome)
+  -- both are told only when done: refused, they are 0
+  pub range-refused : (parameter : ℕ) → let r = ranging parameter in (r .outcome .answer ≡ 0 → ⊥) → (r .least ≡ pos 0) × (r .greatest ≡ pos 0)
+  pub held-refused : (parameter : ℕ) (p : List ℕ) → let h = holding parameter p in (h .outcome .answer ≡ 0 → ⊥) → h .value ≡ pos 0
   -- the tests of an edit and of what a message packs, by themselves
   pub test-edit : (parameter v : ℕ) → Decides (editRows parameter v) 0 (tested (editRows parameter v))
   pub test-bus-edit : (bus source amount destination : ℕ)

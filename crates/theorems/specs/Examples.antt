@@ -1,13 +1,16 @@
--- The examples of document 01 that are marked *, as one table about the definitions that the contracts cite.
+-- The examples of document 01 that are marked *, as one table about the definitions that the contracts cite; and examples of request (vi).
 use mathlib.Core.Path.{_≡_}
-use mathlib.Core.List.{List, [], _∷_}
+use mathlib.Core.List.{List, [], _∷_, _++_}
 use Prim.Native.Nat.{ℕ}
 use lib.ListN.{getD, set, replicate}
 use Rattle.answers.specs.declared.Outcome.{Outcome}
 use Rattle.answers.specs.Lists.{All}
 use Rattle.answers.specs.Table.{Verdict, refused, outcome, outcomeAt}
-use Rattle.answers.specs.Effect.{Effect}
+use Rattle.answers.specs.Effect.{Effect, tested}
+use Rattle.answers.specs.code.Numbers.{asNumber}
 use Rattle.fields.specs.Fields.{size}
+use Rattle.fields.specs.Parameters.{range, ranging}
+use Rattle.patch.specs.Patch.{patchRows, held, holding}
 use Rattle.names.specs.Names.{naming}
 use Rattle.ranges.specs.Values.{plus, minus, valueOf}
 use Rattle.edits.specs.Edits.{extended, applying, applyingBus}
@@ -106,6 +109,39 @@ starred =
     gives (asRead (ofShort busEdit) (bus 0 1 0 0)) (refused (outcome 12 0)) ∷
     gives (asWritten (ofShort busEdit) (bus 0 1 0 0)) (effect (outcome 12 0) room) ∷
     gives (applyingBus 0 1 0 0 P) (effect (outcome 12 0) P) ∷ []
+
+-- Request (vi): values that were found, by a patch that is tested and by its dump that is read; what is told of parameters; values as numbers.
+abbrev pub foundIn : ℕ → ℕ → Outcome → List Example
+foundIn place byte o =
+    gives (tested (patchRows (set P place byte))) o ∷
+    gives (judge (message (ofDump singlePatch) (0 ∷ []) (set P place byte))) (refused o) ∷ []
+
+abbrev pub foundValues : List Example
+foundValues =
+    -- With a sign: detune, an amount, the amount of bus 9.
+    foundIn 19 0xDF (outcomeAt 11 19 (minus 33)) ++
+    foundIn 86 0x40 (outcomeAt 11 86 (plus 64)) ++
+    foundIn 86 0xBF (outcomeAt 11 86 (minus 65)) ++
+    foundIn 132 0x80 (outcomeAt 11 132 (minus 128)) ++
+    -- Without: Keyboard Mode, the one field that may not be 0, the source of bus 0.
+    foundIn 8 0xC8 (outcomeAt 11 8 (plus 200)) ++
+    foundIn 76 0 (outcomeAt 11 76 (plus 0)) ++
+    foundIn 104 0xFF (outcomeAt 11 104 (plus 255)) ++
+    -- A value comes with 11 alone.
+    foundIn 104 20 (outcome 12 0) ++
+    -- Parameters 12, 1, 33 and 21, and 39, which is none.
+    (gives (ranging 12) (range (outcome 0 0) (minus 32) (plus 31)) ∷
+    gives (ranging 1) (range (outcome 0 0) (minus 64) (plus 63)) ∷
+    gives (ranging 33) (range (outcome 0 0) (plus 1) (plus 20)) ∷
+    gives (ranging 21) (range (outcome 0 0) (plus 0) (plus 127)) ∷
+    gives (ranging 39) (range (outcome 8 0) (plus 0) (plus 0)) ∷
+    gives (holding 1 (applying 1 100 P .lent)) (held (outcome 0 0) (minus 28)) ∷
+    gives (holding 33 (set P 76 0)) (held (outcomeAt 11 76 (plus 0)) (plus 0)) ∷
+    -- -33 as a number of 64 bits.
+    gives (asNumber (minus 33)) 18446744073709551583 ∷ [])
+
+abbrev pub FoundValues : Type 0
+FoundValues = All Computes foundValues
 
 -- Every row holds.
 abbrev pub Starred : Type 0

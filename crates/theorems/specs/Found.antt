@@ -10,7 +10,7 @@ use Rattle.answers.specs.Lists.{All}
 use Rattle.answers.specs.Table.{outcomeOf}
 use Rattle.answers.specs.Effect.{tested}
 use Rattle.streams.specs.Stream.{packedIn, reportsFrom}
-use Rattle.ranges.specs.Ranges.{Table, valueIn}
+use Rattle.ranges.specs.Ranges.{Table, valueIn, countedRows}
 use Rattle.fields.specs.Fields.{valueAt}
 use Rattle.patch.specs.Patch.{sourceAt, patchRows, holding}
 use Rattle.names.specs.Names.{naming, showing}
@@ -21,9 +21,11 @@ use Rattle.messages.specs.declared.kinds.Operands.{Operands}
 use Rattle.messages.specs.declared.kinds.Operands.the-variants.{Edit as anEdit, BusEdit as aBusEdit}
 use Rattle.messages.specs.declared.kinds.Packed.{Packed}
 use Rattle.messages.specs.Kinds.{shapeOf, kindOf}
-use Rattle.messages.specs.Judge.{byteAt, recordOf, judge}
+use Rattle.messages.specs.Judge.{byteAt, lentOperandRows, recordOf, judge}
+use Rattle.messages.specs.code.Sizes.{lentRows}
 use Rattle.judging.specs.code.Judged.{bytesIn}
 use Rattle.reading.specs.code.Told.{walked, reads}
+use Rattle.reading.specs.code.Rooms.{made}
 use Rattle.writing.specs.Writing.{writing, writingBank}
 use Rattle.theorems.specs.Answers.{found, complete, patchAt}
 
@@ -65,6 +67,8 @@ pub record SaysWhatWasFound : Type 0 where
   pub reports-each : (s : List ℕ) (place : ℕ)
       → All (λ r. Tells (broughtBy (complete (found s (r .start)))) (outcomeOf (r .verdict))) (reportsFrom judge (length s) s place)
   pub read : (s : List ℕ) (place : ℕ) (lent : List ℕ) → Tells (broughtBy (complete (found s place))) (reads s place lent .result .report .outcome)
+  pub reports-made : (s : List ℕ) (place : ℕ) (room : List ℕ)
+      → All (λ r. Tells (broughtBy (complete (found s (r .start)))) (outcomeOf (r .verdict))) (made s place room)
   pub judges : (m : List ℕ) → Tells (broughtBy m) (outcomeOf (judge m))
   -- a message that is written; a bank, by the patch that it names
   pub write : (k : Kind) (b p out : List ℕ) → Tells (bringing k b p) (writing k b p out .result)
@@ -74,6 +78,13 @@ pub record SaysWhatWasFound : Type 0 where
   pub set-name : (p text : List ℕ) → Tells (inPatch p) (naming p text .result)
   pub show-name : (p out : List ℕ) → Tells (inPatch p) (showing p out .result)
   pub held : (parameter : ℕ) (p : List ℕ) → Tells (inPatch p) (holding parameter p .outcome)
+  -- the tests of an edit and of packed bytes, by themselves
+  pub test-edit : (parameter v : ℕ) → Tells (storing anEdit (parameter ∷ v ∷ [])) (tested (editRows parameter v))
+  pub test-bus-edit : (bus source amount destination : ℕ)
+      → Tells (storing aBusEdit (bus ∷ source ∷ amount ∷ destination ∷ [])) (tested (busRows bus source amount destination))
+  pub test-operands : (o : Operands) (b : List ℕ) → Tells (storing o b) (tested (lentOperandRows o b))
+  pub test-packed : (q : Packed) (p : List ℕ) → Tells (standing (shapeOf q .table) p) (tested (lentRows q p))
+  pub test-table : (n : ℕ) (t : Option Table) (p : List ℕ) → Tells (standing t p) (tested (countedRows n t p))
   -- an edit: refused by its own tests, what it would store; else what the patch has
   pub edit : (parameter v : ℕ) (p : List ℕ)
       → let o = applying parameter v p .result in

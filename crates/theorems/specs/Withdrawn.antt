@@ -88,7 +88,7 @@ formerApplyingBus bus source amount destination p =
     changed 0 (withBus bus source amount destination p) p
     (first (with14 amount (busRows bus source amount destination ++ patchRows p)) (done 0 [] []))
 
--- The same verdict, detail included, and the same lent bytes: for every message, and so for all that is read; for every message written;
+-- The same verdict, detail and value included, and the same lent bytes: for every message, and so for all that is read; for every message written;
 -- for every 0BH edit tested or applied.
 pub record Withdrawn : Type 0 where
   pub judges : (m : List ℕ) → formerJudge m ≡ judge m

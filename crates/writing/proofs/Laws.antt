@@ -98,7 +98,8 @@ none-bad (suc n) k ps z = go (firstOut (take 134 ps)) (firstHalf (take 134 ps)) 
     from : Option Found → Option ℕ → Option BankOutcome
     from a b = orLater k (first (rowFound 11 a ∷ rowAt 12 b ∷ []) (done 0 [] [])) behind
 
-    go : (a : Option Found) (b : Option ℕ) → bankTested (from a b) .outcome .answer ≡ 0 → (bankTested behind .outcome .answer ≡ 0 → behind ≡ none) → from a b ≡ none
+    go : (a : Option Found) (b : Option ℕ) → bankTested (from a b) .outcome .answer ≡ 0
+        → (bankTested behind .outcome .answer ≡ 0 → behind ≡ none) → from a b ≡ none
     go none none z rest = rest z
     go none (some d) z rest = absurd (omega arith)
     go (some (found d v)) b z rest = absurd (omega arith)

@@ -39,7 +39,7 @@ abbrev pub orLater : ℕ → Verdict → Option BankOutcome → Option BankOutco
 orLater k (refused o) later = some (bankOutcome o k)
 orLater k (done o b p) later = later
 
--- The lowest bad one of n patches numbered from k: its own 11 or 12 with the detail, its number as place.
+-- The lowest bad one of n patches numbered from k: its own 11 or 12 with detail and value, its number as place.
 unfoldable pub firstBad : ℕ → ℕ → List ℕ → Option BankOutcome
 firstBad zero k ps = none
 firstBad (suc n) k ps = orLater k (first (fieldRows (take size ps)) (done 0 [] [])) (firstBad n (suc k) (drop size ps))

@@ -4,7 +4,7 @@ use Prim.Native.Nat.{ℕ, suc, _-_, _^_}
 use lib.Dec.{ltb}
 use lib.IntN.{ℤ, pos, negsuc}
 
--- A value below zero is what it lacks to 2 ^ 64.
+-- A value below zero is 2 ^ 64 less its size.
 unfoldable pub asNumber : ℤ → ℕ
 asNumber (pos n) = n
 asNumber (negsuc n) = 2 ^ 64 - suc n

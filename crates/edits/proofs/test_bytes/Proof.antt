@@ -13,7 +13,7 @@ use Rattle.answers.specs.Table.{rowAt, rowFound, Found, found}
 use Rattle.answers.specs.Effect.{tested}
 use Rattle.ranges.specs.Ranges.{outFrom}
 use Rattle.ranges.proofs.Found.{told-some, told-none}
-use Rattle.ranges.proofs.Runs.{further, out-below}
+use Rattle.ranges.proofs.Runs.{further, lowest-out}
 use Rattle.fields.specs.Fields.{fields}
 use Rattle.fields.specs.code.Columns.{busTable}
 use Rattle.patch.specs.Patch.{halfUsed}
@@ -46,7 +46,7 @@ fits : tie.Need-add-out-of-range-2
 fits c =
     let t = c .before in
     let f = t .before .before in
-    omega (arith, out-below busTable 0 (bytes f) _ _ (out t), f .before .before .before .pre)
+    omega (arith, lowest-out busTable 0 (bytes f) .some-out _ _ (out t) .below, f .before .before .before .pre)
 
 returns : tie.Need-returns
 returns c =

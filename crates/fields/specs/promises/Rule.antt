@@ -1,17 +1,27 @@
 -- What document 01 says of its listing as a whole.
 use mathlib.Core.Path.{_≡_}
-use mathlib.Core.Bool.{Bool, true, false, _||_}
+use mathlib.Core.Bool.{Bool, true, false, _&&_, _||_}
 use mathlib.Core.Option.{none, some}
-use Prim.Native.Nat.{ℕ, _+_, _*_, _≤_, _<_}
-use lib.Dec.{eqb}
+use Prim.Native.Nat.{ℕ, _+_, _-_, _*_, _%_, _≤_, _<_}
+use lib.Dec.{eqb, leb, ltb}
+use lib.IntN.{ℤ}
 use lib.ListN.{length}
-use Rattle.ranges.specs.Values.{plus, minus}
+use Rattle.ranges.specs.Values.{plus, minus, fromTo}
 use Rattle.ranges.specs.promises.Tables.{TableRule, Goes}
-use Rattle.fields.specs.Fields.{size, fields, inRange, placeOf, parameterOf}
+use Rattle.fields.specs.Fields.{size, fields, inRange, valueAt, placeOf, parameterOf}
+use Rattle.fields.specs.Parameters.{ranging}
+
+-- A value that a byte in the range of place k has.
+abbrev pub Reached : ℕ → ℤ → Type 0
+Reached k v = (b : ℕ) × ((inRange k b ≡ true) × (valueAt k b ≡ v))
 
 -- The numbers that have no byte.
 abbrev pub unused : ℕ → Bool
 unused n = (eqb n 39 || eqb n 49) || (eqb n 89 || eqb n 99)
+
+-- Byte 19, bytes 86-103 and the amounts of the buses, 105 + 3b, have a sign.
+abbrev pub hasSign : ℕ → Bool
+hasSign k = eqb k 19 || ((leb 86 k && ltb k 104) || (leb 104 k && eqb (k % 3) 0))
 
 -- The rule of the table.
 pub record Rule : Type 0 where
@@ -38,5 +48,12 @@ pub record Rule : Type 0 where
   pub bus-source : (b : ℕ) → b < 10 → Goes fields (104 + 3 * b) (plus 0) (plus 20)
   pub bus-amount : (b : ℕ) → b < 10 → Goes fields (105 + 3 * b) (minus 64) (plus 63)
   pub bus-destination : (b : ℕ) → b < 10 → Goes fields (106 + 3 * b) (plus 0) (plus 32)
+  -- The value of every byte, in range or not (02 (vi)): with a sign it is -128..127, without one the byte itself.
+  pub from-zero : (k n : ℕ) → k < size → hasSign k ≡ true → n < 128 → valueAt k n ≡ plus n
+  pub below-zero : (k n : ℕ) → k < size → hasSign k ≡ true → 1 ≤ n → n ≤ 128 → valueAt k (256 - n) ≡ minus n
+  pub without-sign : (k b : ℕ) → k < size → hasSign k ≡ false → valueAt k b ≡ plus b
+  -- What is told of a parameter's range: its values are those between the two, and both are among them.
+  pub ranged : (n k b : ℕ) → placeOf n ≡ some k → b < 256 → let r = ranging n in inRange k b ≡ fromTo (r .least) (r .greatest) (valueAt k b)
+  pub reached : (n k : ℕ) → placeOf n ≡ some k → let r = ranging n in Reached k (r .least) × Reached k (r .greatest)
   -- No range has both a byte and the one 128 higher: what demand 3 needs.
   pub apart : (k b : ℕ) → k < size → inRange k b ≡ true → inRange k (b + 128) ≡ true → ⊥

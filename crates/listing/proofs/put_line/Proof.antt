@@ -20,11 +20,8 @@ put-line-spec =
     tie.close
     (tie.spec
     (λ c. search needs)
-    (λ c. search needs)
     slice-aggregate-put-spaced
     (λ c κs. search needs)
-    (λ c. search needs)
-    (λ c. search needs)
     (λ c. search needs)
     (λ c κs. search needs)
     (λ c. search needs)

@@ -5,7 +5,7 @@ use Prim.Native.Nat.{ℕ, zero, suc, _-_, _≤_}
 use lib.ListN.{length, take, drop, getD}
 use Rattle.answers.specs.code.Numbers.{ofNumber}
 use Rattle.text.specs.Text.{signed, spaced, Puts}
-use Rattle.reading.specs.code.Rooms.{width}
+use Rattle.reading.specs.code.Rooms.{width, valueAmong}
 use Rattle.listing.specs.code.Pieces.{leftOf, callsLeft, leastRoom}
 use Rattle.listing.specs.declared.Left.{Left}
 use Rattle.listing.specs.declared.Piece.{Piece}
@@ -14,9 +14,9 @@ use Rattle.listing.specs.declared.Piece.{Piece}
 abbrev pub Within : List ℕ → ℕ → ℕ → Type 0
 Within s place messages = (messages ≤ place) × (place ≤ length s)
 
--- The line of a report's numbers, the last of them in two's complement.
+-- The line of a report's numbers, the value in two's complement.
 abbrev pub lineOf : List ℕ → List ℕ
-lineOf ns = spaced (take (width - 1) ns) ++ signed (ofNumber (getD ns (width - 1) 0)) 0x0A
+lineOf ns = spaced (take valueAmong ns) ++ signed (ofNumber (getD ns valueAmong 0)) 0x0A
 
 -- The lines of some reports, whose numbers stand one behind the other.
 unfoldable pub linesOf : ℕ → List ℕ → List ℕ

@@ -1,5 +1,6 @@
 -- Which refusal a patch dump gets for two neighbours among its data bytes and its checksum that are other data bytes than it was written with:
--- 9 with its index, 10, or 11 with its byte and value, by the place and the bytes. The index j is that of the first of the two; data bytes count from 0, as in the detail of 9.
+-- 9 with its index, 10, or 11 with its place and value, by the place and the bytes. The index j is that of the first of the two; data bytes count
+-- from 0, as in the detail of 9.
 use mathlib.Core.Bool.{Bool, _&&_, _||_, cond}
 use Prim.Native.Nat.{ℕ, suc, _+_, _*_, _/_, _%_}
 use lib.Dec.{eqb, ltb}

@@ -1,11 +1,12 @@
 -- A report and a reading as the code tells them: plain numbers, and the four bytes that come with an answer.
-use mathlib.Core.List.{List}
+use mathlib.Core.List.{List, [], _∷_}
 use mathlib.Core.Option.{Option, none, some}
 use Prim.Native.Nat.{ℕ}
 use lib.ListN.{length}
 use Rattle.answers.specs.declared.Outcome.{Outcome}
 use Rattle.answers.specs.Table.{Verdict, outcome, outcomeOf, four}
 use Rattle.answers.specs.Effect.{Effect, toldAs}
+use Rattle.answers.specs.code.Numbers.{asNumber}
 use Rattle.streams.specs.Stream as stream
 use Rattle.messages.specs.Judge.{judge}
 use Rattle.reading.specs.declared.recording.Reading.{Reading}
@@ -16,6 +17,10 @@ reportAs f e o = record { start = f; end = e; outcome = o }
 
 abbrev pub reportOf : stream.Report → Report
 reportOf r = reportAs (r .start) (r .end) (outcomeOf (r .verdict))
+
+-- Its numbers, the value in two's complement.
+abbrev pub numbersTold : Report → List ℕ
+numbersTold r = r .start ∷ r .end ∷ r .outcome .answer ∷ r .outcome .detail ∷ asNumber (r .outcome .value) ∷ []
 
 -- Where no message is found, start and end are the input's length.
 abbrev pub reportOr : ℕ → Option stream.Report → Report

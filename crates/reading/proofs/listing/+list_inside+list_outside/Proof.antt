@@ -16,9 +16,10 @@ use Rattle.streams.specs.Stream.{Report, messageAt}
 use Rattle.streams.specs.code.Scan.{outside, inside}
 use Rattle.frames.proofs.Handing.{outside-none, outside-found, inside-again, inside-left, inside-cut}
 use Rattle.messages.specs.Judge.{judge}
-use Rattle.reading.specs.code.Rooms.{numbersOf, width, Tells}
+use Rattle.reading.specs.code.Told.{numbersTold}
+use Rattle.reading.specs.code.Rooms.{numbersOf, width, ReadsBack}
 use Rattle.reading.proofs.Spans.{span-length}
-use Rattle.reading.proofs.Rooms.{lists-full, lists-none, lists-one, PartHolds, part-fits, lists-on, same-numbers, value-told}
+use Rattle.reading.proofs.Rooms.{lists-full, lists-none, lists-one, PartHolds, part-fits, lists-on, value-told}
 use Rattle.reading.proofs.listing.list_inside.Reads as list-inside
 use Rattle.reading.proofs.listing.list_inside.Kinds as list-inside-kinds
 use Rattle.reading.proofs.listing.+list_inside+list_outside.Lts-list_inside as list-inside-lts
@@ -105,9 +106,9 @@ module _ {t : ℕ} (c : Put t) where
   first : filled ≡ numbersOf (messageAt judge start rest) ++ drop width room
   first =
       let at = c .before .before .report-at in
-      c .put-report .ensures ∙ ap (λ (l : List ℕ). l ++ drop width room) (same-numbers (messageAt judge start rest) (at .result) (at .ensures))
+      c .put-report .ensures ∙ ap (λ (l : List ℕ). l ++ drop width room) (ap numbersTold (at .ensures))
 
-  tells : Tells (messageAt judge start rest)
+  tells : ReadsBack (messageAt judge start rest)
   tells =
       let at = c .before .before .report-at in
       let small : SFits w16 (at .result .outcome .value) = search needs in

@@ -1,14 +1,14 @@
 -- `put_report` stores its numbers one after the other from the start of the room.
 use mathlib.Core.Path.{refl}
-use mathlib.Core.List.{[], _∷_}
+use mathlib.Core.List.{[]}
 use native.Mathlib.Omega.{arith}
 use lib.ListN.{length-set}
 use borrow.Author.Needs.{needs}
 use mir.Syntax.{w16}
 use mir.Val.{SFits}
 use mir.Facts.{toZ-ofZ}
-use Rattle.answers.specs.code.Numbers.{asNumber}
 use Rattle.answers.proofs.Lists.{puts-after}
+use Rattle.reading.specs.code.Told.{numbersTold}
 use Rattle.reading.proofs.listing.put_report.Statement.{statement}
 use Rattle.reading.proofs.listing.put_report.Tie as tie
 
@@ -20,7 +20,7 @@ returns c =
     let room = a .room .now in
     let small : SFits w16 (r .outcome .value) = search needs in
     rw (c .as-number .ensures, toZ-ofZ small)
-    (puts-after [] (r .start ∷ r .end ∷ r .outcome .answer ∷ r .outcome .detail ∷ asNumber (r .outcome .value) ∷ []) room room 0 refl (s .pre) refl)
+    (puts-after [] (numbersTold r) room room 0 refl (s .pre) refl)
 
 pub put-report-spec : {M : Type 1} → statement M
 put-report-spec =
