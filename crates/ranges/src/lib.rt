@@ -3,10 +3,11 @@ use answers::Outcome;
 use answers::WRONG_LENGTH;
 ghost use mathlib.Core.Path.{_≡_};
 ghost use mathlib.Core.List.{[], _∷_};
+ghost use lib.ListN.{getD};
 ghost use Rattle.answers.specs.Effect.{tested};
 ghost use Rattle.answers.specs.Table.{rowFound};
 ghost use Rattle.ranges.specs.Values.{valueOf, valueBy};
-ghost use Rattle.ranges.specs.Ranges.{between, inRow, valueIn, outFrom, countedRows};
+ghost use Rattle.ranges.specs.Ranges.{leastIn, greatestIn, between, inRow, valueIn, outFrom, countedRows};
 ghost use Rattle.ranges.specs.code.Found.{lentTable};
 
 // The lowest index or bus at which a test fails.
@@ -44,14 +45,21 @@ fn lies_between(least: u8, greatest: u8, b: u8) -> bool
     above <= std::num::wrapping_sub_u8(greatest, least)
 }
 
-// A byte lies in the range of its row: place, parameter, least and greatest value. Past the table both bounds are 0.
+// The row of a place: place, parameter, least and greatest value; past the table four zeros.
+fn row_of(table: &[[u8; 4]], place: usize) -> [u8; 4]
+    ensures { λ r. ⌜ (getD r 2 0 ≡ leastIn (now (table .entry)) place) × (getD r 3 0 ≡ greatestIn (now (table .entry)) place) ⌝ }
+{
+    if table.len() <= place {
+        return [0, 0, 0, 0];
+    }
+    table[place]
+}
+
+// A byte lies in the range of its row.
 fn in_row(table: &[[u8; 4]], place: usize, b: u8) -> bool
     ensures { λ r. ⌜ r ≡ inRow (now (table .entry)) place b ⌝ }
 {
-    if table.len() <= place {
-        return lies_between(0, 0, b);
-    }
-    let row = table[place];
+    let row = row_of(table, place);
     lies_between(row[2], row[3], b)
 }
 
@@ -59,10 +67,7 @@ fn in_row(table: &[[u8; 4]], place: usize, b: u8) -> bool
 fn value_in(table: &[[u8; 4]], place: usize, b: u8) -> i16
     ensures { λ r. ⌜ r ≡ valueIn (now (table .entry)) place b ⌝ }
 {
-    if table.len() <= place {
-        return value_by(false, b);
-    }
-    let row = table[place];
+    let row = row_of(table, place);
     value_by(row[3] < row[2], b)
 }
 

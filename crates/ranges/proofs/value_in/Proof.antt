@@ -1,6 +1,4 @@
--- The bounds are those of the row; past the table both are 0.
-use mathlib.Core.List.{[]}
-use lib.ListN.{List·getD-eq-default}
+-- The bounds are those of the row.
 use borrow.Author.Needs.{needs}
 use mir.Facts.{toZ-ofZ}
 use Rattle.ranges.proofs.value_in.Statement.{statement}
@@ -8,18 +6,8 @@ use Rattle.ranges.proofs.value_in.Tie as tie
 
 returns : tie.Need-returns
 returns c =
-    rw (toZ-ofZ (record { sfits = c .value-by .ok }), List·getD-eq-default (c .before .before .args .table .now) [] (c .before .if1 .taken))
-    (c .value-by .ensures)
+    let row = c .before .row-of .ensures in
+    rw (toZ-ofZ (record { sfits = c .value-by .ok }), ← (row .0), ← (row .1)) (c .value-by .ensures)
 
 pub value-in-spec : {M : Type 1} → statement M
-value-in-spec =
-    tie.close
-    (tie.spec
-    (λ c κs. search needs)
-    returns
-    (λ c. search needs)
-    (λ c. search needs)
-    (λ c. search needs)
-    (λ c. search needs)
-    (λ c κs. search needs)
-    (λ c. search needs))
+value-in-spec = tie.close (tie.spec (λ c κs. search needs) (λ c. search needs) (λ c. search needs) (λ c κs. search needs) returns)
