@@ -64,7 +64,7 @@ enum matrix_opcode {
 
 /* matrix_reports makes at most this many reports a call, of so many numbers each. */
 #define MATRIX_REPORTS 8
-#define MATRIX_REPORT_NUMBERS 5
+#define MATRIX_REPORT_NUMBERS 6
 
 /* matrix_place_of and matrix_parameter_of where there is none. */
 #define MATRIX_NONE 255
@@ -84,6 +84,7 @@ typedef struct matrix_report {
     size_t start; /* the place of its F0H */
     size_t end;   /* the place behind it, from which the next call goes on */
     matrix_outcome outcome;
+    size_t noise; /* how many bytes from start to end are real time, F8H to FFH; 0 with answer 1 */
 } matrix_report;
 
 /* The same, with four bytes that come with the message, as received: a patch's number, a remote
@@ -123,14 +124,17 @@ typedef struct matrix_listed {
 
 /* Finds the first message of the input `s` that starts at `place` or later. Real-time bytes, F8H to
  * FFH, may stand anywhere inside a message: they are dropped before its bytes are looked at, counted
- * or indexed, but start and end are places of the input with them. A message ends behind its F7H; one
- * that is cut (2), at s_len; one that is interrupted (3), at the status byte that interrupts it.
+ * or indexed, but start and end are places of the input with them, and the report's noise is how many
+ * there are, whatever its answer. So end - start - noise is what 7 goes by: the length of a complete
+ * message after dropping. A message ends behind its F7H; one that is cut (2), at s_len; one that is
+ * interrupted (3), at the status byte that interrupts it.
  * Answers: 1 (start and end are then s_len; so for a place past the end), 2, 3, 4, 5, 6, 7, 8, 9, 10,
  * 11, 12, in this order; 0 with the opcode as detail. */
 matrix_report matrix_walk(const uint8_t *s, size_t s_len, size_t place);
 
 /* Reads the record of the first message of the input `s` that starts at `place` or later.
- * Answers: as matrix_walk, then 13 where the buffer is shorter than the packed bytes.
+ * Answers: as matrix_walk, then 13 where the buffer is shorter than the packed bytes. Start, end and
+ * noise are those of matrix_walk, with 13 too.
  * Written: a dump's packed bytes, 134 or 172, at the start of the buffer with answer 0. An edit needs
  * no buffer. The rest of the buffer is kept, all of it with every other answer. */
 matrix_reading matrix_read(const uint8_t *s, size_t s_len, size_t place,
@@ -139,9 +143,9 @@ matrix_reading matrix_read(const uint8_t *s, size_t s_len, size_t place,
 /* Lists the messages of the input `s` that start at `place` or later, as walks would from each end:
  * as many reports as there are and as the room takes, at most MATRIX_REPORTS. To go on, call again
  * from `next`. None made, with room for one, says that there are no more.
- * Written: five numbers for each report, start, end, answer, detail and value, at the start of the
- * room, a value below 0 as C converts it to size_t; matrix_listed_report takes them from there. Numbers
- * behind them are kept. */
+ * Written: six numbers for each report, start, end, answer, detail, value and noise, at the start of
+ * the room, a value below 0 as C converts it to size_t; matrix_listed_report takes them from there.
+ * Numbers behind them are kept. */
 matrix_listed matrix_reports(const uint8_t *s, size_t s_len, size_t place,
                              size_t *room, size_t room_len);
 
@@ -235,6 +239,7 @@ static inline matrix_report matrix_listed_report(const size_t *room, size_t inde
     report.outcome.answer = numbers[2] & 0xFF;
     report.outcome.detail = numbers[3];
     report.outcome.value = (int16_t)(value < 0x8000 ? value : value - 0x10000);
+    report.noise = numbers[5];
     return report;
 }
 

@@ -46,9 +46,16 @@ static int done(matrix_outcome outcome, size_t detail)
     return gave(outcome, MATRIX_DONE, detail);
 }
 
+/* A report on a message with so much real time in it. */
+static int noisy(matrix_report report, size_t start, size_t end, size_t noise)
+{
+    return report.start == start && report.end == end && report.noise == noise;
+}
+
+/* One without any. */
 static int spans(matrix_report report, size_t start, size_t end)
 {
-    return report.start == start && report.end == end;
+    return noisy(report, start, end, 0);
 }
 
 static int says(matrix_report report, size_t start, size_t end, uint8_t answer, size_t detail)
@@ -313,6 +320,47 @@ static void test_found(void)
     }
 }
 
+/* Real time in a complete message, an interrupted one and a cut one, and between them. */
+static void test_noise(void)
+{
+    static const uint8_t heard[] = {0xFE, 0xF0, 0x10, 0x06, 0xFE, 0x06, 0x15, 0x7F, 0xF8,
+                                    0xF7, 0xFE, 0xF0, 0xFF, 0x90, 0xFE, 0xF0, 0xFE};
+    uint8_t p[MATRIX_PATCH_BYTES], dump[MATRIX_PATCH_MESSAGE], buffer[MATRIX_PATCH_BYTES];
+    uint8_t sent[2 * MATRIX_PATCH_MESSAGE];
+    size_t room[4 * MATRIX_REPORT_NUMBERS];
+
+    for (size_t i = 0; i < 4 * MATRIX_REPORT_NUMBERS; i++)
+        room[i] = FILL_NUMBER;
+    HOLDS(matrix_reports(heard, sizeof heard, 0, room, 4 * MATRIX_REPORT_NUMBERS).count == 3);
+    matrix_report report = matrix_walk(heard, sizeof heard, 0);
+    HOLDS(noisy(report, 1, 10, 2) && done(report.outcome, MATRIX_OPCODE_EDIT));
+    report = matrix_listed_report(room, 0);
+    HOLDS(noisy(report, 1, 10, 2) && done(report.outcome, MATRIX_OPCODE_EDIT));
+    report = matrix_walk(heard, sizeof heard, 10);
+    HOLDS(noisy(report, 11, 13, 1) && gave(report.outcome, MATRIX_INTERRUPTED, 0));
+    HOLDS(noisy(matrix_listed_report(room, 1), 11, 13, 1));
+    report = matrix_walk(heard, sizeof heard, 13);
+    HOLDS(noisy(report, 15, 17, 1) && gave(report.outcome, MATRIX_CUT, 0));
+    HOLDS(noisy(matrix_listed_report(room, 2), 15, 17, 1));
+    HOLDS(says(matrix_walk(heard, sizeof heard, 16), 17, 17, MATRIX_NO_MESSAGE, 0));
+    for (size_t i = 3 * MATRIX_REPORT_NUMBERS; i < 4 * MATRIX_REPORT_NUMBERS; i++)
+        HOLDS(room[i] == FILL_NUMBER);
+
+    /* Active Sensing behind every byte of a dump. */
+    make_p(p);
+    HOLDS(done(matrix_write_patch(7, p, sizeof p, dump, sizeof dump), sizeof dump));
+    for (size_t i = 0; i < sizeof dump; i++) {
+        sent[2 * i] = dump[i];
+        sent[2 * i + 1] = 0xFE;
+    }
+    const size_t end = sizeof sent - 1, noise = sizeof dump - 1;
+    matrix_reading r = matrix_read(sent, sizeof sent, 0, buffer, sizeof buffer - 1);
+    HOLDS(noisy(r.report, 0, end, noise) && gave(r.report.outcome, MATRIX_NO_ROOM, 0));
+    r = matrix_read(sent, sizeof sent, 0, buffer, sizeof buffer);
+    HOLDS(noisy(r.report, 0, end, noise) && done(r.report.outcome, MATRIX_OPCODE_PATCH));
+    HOLDS(r.bytes[0] == 7 && memcmp(buffer, p, sizeof p) == 0);
+}
+
 static void test_values(void)
 {
     uint8_t p[MATRIX_PATCH_BYTES];
@@ -466,6 +514,7 @@ int main(void)
     test_names();
     test_edits();
     test_found();
+    test_noise();
     test_values();
     test_writing();
     test_banks();

@@ -20,7 +20,7 @@ pub struct Job {
 }
 
 const SEED: u64 = 1000;
-/// The sizes of the streams. Noise is long enough that no processor learns its branches by heart; F0H
+/// The sizes of the streams. Random bytes are long enough that no processor learns its branches by heart; F0H
 /// only has far more reports to a byte.
 const BANKS: usize = 1 << 16;
 const NOISE: usize = 1 << 20;
@@ -28,10 +28,12 @@ const STARTS: usize = 1 << 14;
 /// How many patches are tested and edits are applied in a pass.
 const MANY: usize = 100;
 
-pub fn all() -> [Job; 9] {
+pub fn all() -> [Job; 11] {
     let mut random = Random::new(SEED);
     let bank = good_patches(&mut random, BANK_PATCHES);
     let banks: Vec<u8> = bank_dumps(&bank).into_iter().cycle().take(BANKS).collect();
+    let sensing = |every| inputs::with_active_sensing(&banks, every);
+    let (often, seldom) = (sensing(3), sensing(16));
     let noise = inputs::bytes(&mut random, NOISE);
     let starts = vec![0xF0; STARTS];
     let patches = good_patches(&mut random, MANY);
@@ -42,6 +44,8 @@ pub fn all() -> [Job; 9] {
     let patch = inputs::good_patch(&mut random);
     [
         reports("reports-banks", banks.clone()),
+        reports("reports-sensing-16", seldom),
+        reports("reports-sensing-3", often),
         reports("reports-noise", noise),
         reports("reports-starts", starts),
         read(banks),
@@ -85,8 +89,8 @@ fn reports(name: &'static str, input: Vec<u8>) -> Job {
             loop {
                 let made = ffi::reports(input, place, room.as_flattened_mut());
                 // The end of the last is the place to go on from, and known before the call is over.
-                for &[start, end, answer, detail, value] in &room[..made.count] {
-                    all = add(all, start ^ end ^ answer ^ detail ^ value);
+                for &[start, end, answer, detail, value, noise] in &room[..made.count] {
+                    all = add(all, start ^ end ^ answer ^ detail ^ value ^ noise);
                     place = end;
                 }
                 if made.count == 0 {
@@ -97,7 +101,7 @@ fn reports(name: &'static str, input: Vec<u8>) -> Job {
         plain: Box::new(move || {
             reference::reports(black_box(other.as_slice())).fold(0, |all, r| {
                 let outcome = one(r.answer, r.detail, r.value);
-                add(all, r.start ^ r.end ^ outcome)
+                add(all, r.start ^ r.end ^ outcome ^ r.noise)
             })
         }),
     }
@@ -122,7 +126,7 @@ fn read(input: Vec<u8>) -> Job {
                 }
                 black_box(&buffer);
                 let [first, ..] = r.bytes;
-                let places = r.report.start ^ r.report.end;
+                let places = r.report.start ^ r.report.end ^ r.report.noise;
                 all = add(all, places ^ library(outcome) ^ usize::from(first));
                 place = r.report.end;
             }
@@ -138,7 +142,8 @@ fn read(input: Vec<u8>) -> Job {
                 black_box(&other_buffer);
                 let [first, ..] = r.bytes;
                 let outcome = one(r.answer, r.detail, r.value);
-                all = add(all, r.start ^ r.end ^ outcome ^ usize::from(first));
+                let places = r.start ^ r.end ^ r.noise;
+                all = add(all, places ^ outcome ^ usize::from(first));
                 place = r.end;
             }
         }),

@@ -16,8 +16,9 @@ pub fn flat(report: reference::Report) -> ffi::Flat {
         answer,
         detail,
         value,
+        noise,
     } = report;
-    [start, end, answer.into(), detail, word(value)]
+    [start, end, answer.into(), detail, word(value), noise]
 }
 
 /// A value among numbers that have no sign, as C converts it.

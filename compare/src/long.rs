@@ -32,7 +32,7 @@ struct Kind {
     shorten: fn(&mut [u8]),
 }
 
-static KINDS: [Kind; 6] = [
+static KINDS: [Kind; 7] = [
     Kind {
         name: "F0H only",
         make: |size| vec![0xF0; size],
@@ -60,6 +60,15 @@ static KINDS: [Kind; 6] = [
     Kind {
         name: "banks",
         make: banks,
+        shorten: |_| {},
+    },
+    Kind {
+        name: "banks, FEH behind every 16th byte",
+        make: |size| {
+            let mut input = inputs::with_active_sensing(&banks(size), 16);
+            input.truncate(size);
+            input
+        },
         shorten: |_| {},
     },
     Kind {
@@ -109,13 +118,15 @@ fn by_walk(input: &[u8], each: &mut dyn FnMut(&Flat) -> bool) {
             start,
             end,
             outcome,
+            noise,
         } = ffi::walk(input, place);
         let ffi::Outcome {
             answer,
             value,
             detail,
         } = outcome;
-        if answer == NO_MESSAGE || !each(&[start, end, answer.into(), detail, word(value)]) {
+        let numbers = [start, end, answer.into(), detail, word(value), noise];
+        if answer == NO_MESSAGE || !each(&numbers) {
             return;
         }
         place = end;

@@ -105,8 +105,9 @@ impl From<ffi::Report> for Returned {
             start,
             end,
             outcome,
+            noise,
         } = report;
-        Self::from(outcome).and([start, end])
+        Self::from(outcome).and([start, end, noise])
     }
 }
 
@@ -171,8 +172,9 @@ impl From<reference::Report> for Returned {
             answer,
             detail,
             value,
+            noise,
         } = report;
-        Self::outcome(answer, detail, value).and([start, end])
+        Self::outcome(answer, detail, value).and([start, end, noise])
     }
 }
 
@@ -184,9 +186,10 @@ impl From<reference::Reading> for Returned {
             answer,
             detail,
             value,
+            noise,
             bytes,
         } = reading;
-        let report = Self::outcome(answer, detail, value).and([start, end]);
+        let report = Self::outcome(answer, detail, value).and([start, end, noise]);
         report.and(bytes.map(usize::from))
     }
 }

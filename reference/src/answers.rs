@@ -70,6 +70,8 @@ pub struct Report {
     pub detail: usize,
     /// With answer 11 the value found, with its sign where the field has one; else 0.
     pub value: i16,
+    /// How many bytes F8H..FFH stand from the start to the end, which is not included.
+    pub noise: usize,
 }
 
 /// What reading a record says of one message.
@@ -86,6 +88,8 @@ pub struct Reading {
     pub detail: usize,
     /// With answer 11 the value found, with its sign where the field has one; else 0.
     pub value: i16,
+    /// How many bytes F8H..FFH stand from the start to the end, which is not included.
+    pub noise: usize,
     /// A patch number, or an edit's two or four bytes, as received; zero elsewhere.
     pub bytes: [u8; 4],
 }

@@ -12,10 +12,11 @@ pub(crate) enum Ending<'a> {
     Cut,
 }
 
-/// A message's extent in the input.
+/// A message's extent in the input, and how many bytes in it are real time.
 pub(crate) struct Frame<'a> {
     pub start: usize,
     pub end: usize,
+    pub noise: usize,
     pub ending: Ending<'a>,
 }
 
@@ -35,26 +36,22 @@ const fn ends_message(byte: u8) -> bool {
 #[inline]
 pub(crate) fn next_frame(input: &[u8], place: usize) -> Option<Frame<'_>> {
     let start = place + position(input.get(place..)?, |byte| byte == START)?;
-    let inside = &input[start + 1..];
-    let frame = match position(inside, ends_message) {
-        None => Frame {
-            start,
-            end: input.len(),
-            ending: Ending::Cut,
-        },
-        Some(length) if inside[length] == END => Frame {
-            start,
-            end: start + length + 2,
-            ending: Ending::Complete(&inside[..length]),
-        },
+    let rest = &input[start + 1..];
+    let length = position(rest, ends_message).unwrap_or(rest.len());
+    let (inside, behind) = rest.split_at(length);
+    let end = start + 1 + length;
+    let (end, ending) = match behind.first() {
+        Some(&END) => (end + 1, Ending::Complete(inside)),
         // The byte that interrupts is not consumed.
-        Some(length) => Frame {
-            start,
-            end: start + length + 1,
-            ending: Ending::Interrupted,
-        },
+        Some(_) => (end, Ending::Interrupted),
+        None => (end, Ending::Cut),
     };
-    Some(frame)
+    Some(Frame {
+        start,
+        end,
+        noise: count_real_time(inside),
+        ending,
+    })
 }
 
 /// The first byte that is `wanted`. Blocks without one are passed over by a test without branches,
@@ -67,4 +64,20 @@ fn position(bytes: &[u8], wanted: impl Fn(u8) -> bool) -> Option<usize> {
     let passed = BLOCK * blocks.iter().take_while(without).count();
     let found = bytes[passed..].iter().position(|&byte| wanted(byte))?;
     Some(passed + found)
+}
+
+/// How many of the bytes inside a message are real time.
+#[inline]
+fn count_real_time(inside: &[u8]) -> usize {
+    const BLOCK: usize = 128;
+    // The others are data, below 80H. Usually all are.
+    if inside.is_ascii() {
+        return 0;
+    }
+    // The count of a block fits into a byte, so that it compiles to vector instructions.
+    let counts = inside.chunks(BLOCK).map(|block| {
+        let count: u8 = block.iter().map(|&byte| u8::from(is_real_time(byte))).sum();
+        usize::from(count)
+    });
+    counts.sum()
 }

@@ -5,7 +5,13 @@
 //!
 //! ```
 //! let input = [0x41, 0xF0, 0xF7, 0xF0, 0x10, 0x06, 0x06, 0x15, 0x7F, 0xF7, 0xF0];
-//! let text = "start end answer detail value\n1 3 4 0 0\n3 10 0 6 0\n10 11 2 0 0\nmessages 3\n";
+//! let text = "\
+//! start end answer detail value rt
+//! 1 3 4 0 0 0
+//! 3 10 0 6 0 0
+//! 10 11 2 0 0 0
+//! messages 3
+//! ";
 //! assert_eq!(reference::listing(&input), text.as_bytes());
 //! ```
 

@@ -6,14 +6,14 @@ use crate::reading::reports;
 /// Programs take at most this many bytes.
 pub const LONGEST_INPUT: usize = 65_536;
 
-/// The listing of a stream: start, end, answer, detail and value of each report in decimal, then
-/// their number. For an input too long, that alone.
+/// The listing of a stream: start, end, answer, detail, value and noise of each report in decimal,
+/// then their number. For an input too long, that alone.
 #[must_use]
 pub fn listing(input: &[u8]) -> Vec<u8> {
     if input.len() > LONGEST_INPUT {
         return b"input too long\n".to_vec();
     }
-    let mut text = b"start end answer detail value\n".to_vec();
+    let mut text = b"start end answer detail value rt\n".to_vec();
     let mut messages = 0;
     for report in reports(input) {
         push_line(&mut text, &report);
@@ -29,7 +29,8 @@ fn push_line(text: &mut Vec<u8>, report: &Report) {
     push_decimal(text, report.end, b' ');
     push_decimal(text, report.answer.into(), b' ');
     push_decimal(text, report.detail, b' ');
-    push_signed(text, report.value, b'\n');
+    push_signed(text, report.value, b' ');
+    push_decimal(text, report.noise, b'\n');
 }
 
 /// Adds a number with its sign, if it is below 0, and the character behind it.
@@ -72,8 +73,8 @@ mod tests {
     fn numbers_below_0_have_a_sign() {
         for number in [0, 9, 192, 255, i16::MAX, -1, -33, -128, i16::MIN] {
             let mut text = Vec::new();
-            push_signed(&mut text, number, b'\n');
-            assert_eq!(text, format!("{number}\n").into_bytes());
+            push_signed(&mut text, number, b' ');
+            assert_eq!(text, format!("{number} ").into_bytes());
         }
     }
 }

@@ -9,16 +9,23 @@ use crate::records::Record;
 /// The first message that starts at `place` or later; answer 1 when there is none.
 #[inline]
 pub fn walk(input: &[u8], place: usize) -> Report {
-    let Some(Frame { start, end, ending }) = next_frame(input, place) else {
+    let Some(Frame {
+        start,
+        end,
+        noise,
+        ending,
+    }) = next_frame(input, place)
+    else {
         return Report {
             start: input.len(),
             end: input.len(),
             answer: NO_MESSAGE,
             detail: 0,
             value: 0,
+            noise: 0,
         };
     };
-    let judged = Record::of(ending).map(|record| usize::from(record.opcode()));
+    let judged = Record::of(ending, noise).map(|record| usize::from(record.opcode()));
     let Outcome {
         answer,
         detail,
@@ -30,6 +37,7 @@ pub fn walk(input: &[u8], place: usize) -> Report {
         answer,
         detail,
         value,
+        noise,
     }
 }
 
@@ -37,18 +45,25 @@ pub fn walk(input: &[u8], place: usize) -> Report {
 /// buffer's start.
 #[inline]
 pub fn read(input: &[u8], place: usize, buffer: &mut [u8]) -> Reading {
-    let Some(Frame { start, end, ending }) = next_frame(input, place) else {
+    let Some(Frame {
+        start,
+        end,
+        noise,
+        ending,
+    }) = next_frame(input, place)
+    else {
         return Reading {
             start: input.len(),
             end: input.len(),
             answer: NO_MESSAGE,
             detail: 0,
             value: 0,
+            noise: 0,
             bytes: [0; 4],
         };
     };
     let mut bytes = [0; 4];
-    let judged = Record::of(ending).and_then(|record| {
+    let judged = Record::of(ending, noise).and_then(|record| {
         let packed = record.packed();
         buffer
             .get_mut(..packed.len())
@@ -68,6 +83,7 @@ pub fn read(input: &[u8], place: usize, buffer: &mut [u8]) -> Reading {
         answer,
         detail,
         value,
+        noise,
         bytes,
     }
 }

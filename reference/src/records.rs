@@ -23,15 +23,14 @@ pub(crate) enum Record {
 }
 
 impl Record {
-    /// Judges a message in the order of the table, from 2 on.
+    /// Judges a message in the order of the table, from 2 on. One without noise has nothing to
+    /// drop.
     #[inline]
-    pub fn of(ending: Ending) -> Result<Self, Refusal> {
+    pub fn of(ending: Ending, noise: usize) -> Result<Self, Refusal> {
         match ending {
             Ending::Cut => Err(Refusal::plain(CUT)),
             Ending::Interrupted => Err(Refusal::plain(INTERRUPTED)),
-            // Only data bytes and real time stand inside a message, so one that is all below 80H
-            // has no real time to drop.
-            Ending::Complete(content) if content.is_ascii() => parse(content),
+            Ending::Complete(content) if noise == 0 => parse(content),
             Ending::Complete(content) => parse_less_real_time(content),
         }
     }
@@ -68,17 +67,50 @@ impl Record {
     }
 }
 
-/// Drops real time first. Of a message longer than any kind one byte too many is kept, which is
-/// enough to find its length wrong.
+/// The most bytes between F0H and F7H that a message of the five kinds has, real time dropped.
+const LONGEST: usize = length::MASTER - 2;
+
+/// Real time is dropped from this many bytes at a time.
+const BLOCK: usize = 8;
+
+/// Drops real time first.
 fn parse_less_real_time(content: &[u8]) -> Result<Record, Refusal> {
-    let mut kept = [0; length::MASTER - 1];
-    let data = content.iter().filter(|&&byte| !is_real_time(byte));
-    let length = kept
-        .iter_mut()
-        .zip(data)
-        .map(|(slot, &byte)| *slot = byte)
-        .count();
+    let mut kept = [0; LONGEST + BLOCK];
+    let length = drop_real_time(content, &mut kept);
     parse(&kept[..length])
+}
+
+/// Keeps the data bytes of a message and tells their number. Of one longer than any kind at least
+/// one byte too many is kept, which is enough to find its length wrong.
+fn drop_real_time(content: &[u8], kept: &mut [u8; LONGEST + BLOCK]) -> usize {
+    let (blocks, rest) = content.as_chunks();
+    let mut length = 0;
+    for block in blocks {
+        let Some(room) = kept[length..].first_chunk_mut() else {
+            return length;
+        };
+        if block.is_ascii() {
+            *room = *block;
+            length += BLOCK;
+        } else {
+            length += keep(block, room);
+        }
+    }
+    if let Some(room) = kept[length..].first_chunk_mut() {
+        length += keep(rest, room);
+    }
+    length
+}
+
+/// Keeps the data bytes of a block and tells their number. Every byte is put into the room, and the
+/// next one over it if it is real time, so that there are no branches.
+fn keep(block: &[u8], room: &mut [u8; BLOCK]) -> usize {
+    let mut length = 0;
+    for &byte in block {
+        room[length] = byte;
+        length += usize::from(!is_real_time(byte));
+    }
+    length
 }
 
 /// Judges the bytes between F0H and F7H, real time dropped.

@@ -29,6 +29,8 @@ pub struct Report {
     pub end: usize,
     /// Done with the opcode as detail, or the refusal.
     pub outcome: Outcome,
+    /// How many bytes between the two places are real time.
+    pub noise: usize,
 }
 
 /// The same with the bytes that come with the message.
@@ -86,15 +88,16 @@ pub struct Listed {
 /// The most reports that the library makes in a call.
 pub const A_CALL: usize = 8;
 
-/// A report as it stands in the room that is lent for reports: start, end, answer, detail, value.
-pub type Flat = [usize; 5];
+/// A report as it stands in the room that is lent for reports: start, end, answer, detail, value,
+/// noise.
+pub type Flat = [usize; 6];
 
 /// Room for a report.
-pub const EMPTY: Flat = [0; 5];
+pub const EMPTY: Flat = [0; 6];
 
 impl From<Flat> for Report {
     #[inline]
-    fn from([start, end, answer, detail, value]: Flat) -> Self {
+    fn from([start, end, answer, detail, value, noise]: Flat) -> Self {
         let answer = u8::try_from(answer).expect("an answer is a byte");
         let value = i16::try_from(value.cast_signed()).expect("a value has sixteen bits");
         Self {
@@ -105,6 +108,7 @@ impl From<Flat> for Report {
                 value,
                 detail,
             },
+            noise,
         }
     }
 }

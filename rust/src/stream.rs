@@ -17,6 +17,9 @@ pub struct Report {
     pub end: usize,
     /// The kind of message, or why it was refused.
     pub kind: Result<Kind, Error>,
+    /// How many bytes of real time (F8H..FFH) stood between the two places, whether the message was
+    /// accepted or refused: how noisy the line was.
+    pub noise: usize,
 }
 
 impl Report {
@@ -26,13 +29,19 @@ impl Report {
             start,
             end,
             outcome,
+            noise,
         } = report;
         let about = |bare| refusal(&input[start..end], bare);
         let kind = match Error::check(outcome, about) {
             Err(Error::NoMessage) => return None,
             accepted => accepted.map(accepted_kind),
         };
-        Some(Self { start, end, kind })
+        Some(Self {
+            start,
+            end,
+            kind,
+            noise,
+        })
     }
 
     /// Where the message stands in the stream.
@@ -84,6 +93,9 @@ pub struct Found {
     pub end: usize,
     /// The message, or why it was refused.
     pub message: Result<Message, Error>,
+    /// How many bytes of real time (F8H..FFH) stood between the two places, whether the message was
+    /// accepted or refused: how noisy the line was.
+    pub noise: usize,
 }
 
 impl Found {
@@ -96,8 +108,8 @@ impl Found {
 
 /// The messages of a stream, accepted and refused, in their order.
 ///
-/// Bytes between messages are skipped, and real time inside them is dropped. Every F0H starts a
-/// message, so no message is passed over in silence.
+/// Bytes between messages are skipped, and real time inside them is dropped and counted. Every F0H
+/// starts a message, so no message is passed over in silence.
 ///
 /// ```
 /// use matrix1000::{messages, Error, Kind};
@@ -137,11 +149,17 @@ impl Iterator for Messages<'_> {
         let mut packed = [0; Master::LENGTH];
         let ffi::Reading { report, bytes } = ffi::read(self.input, self.place, &mut packed);
         self.place = report.end;
-        let Report { start, end, kind } = Report::new(self.input, report)?;
+        let Report {
+            start,
+            end,
+            kind,
+            noise,
+        } = Report::new(self.input, report)?;
         Some(Found {
             start,
             end,
             message: kind.and_then(|kind| record(kind, bytes, &packed)),
+            noise,
         })
     }
 }
@@ -177,6 +195,16 @@ fn record(kind: Kind, bytes: [u8; 4], packed: &[u8; Master::LENGTH]) -> Result<M
 /// let report = report_at(&input, 2).unwrap();
 /// assert_eq!((report.range(), report.kind), (3..10, Ok(Kind::Edit)));
 /// assert_eq!(report_at(&input, 10), None);
+/// ```
+///
+/// Active Sensing inside a message, which a noisy line sends, is dropped and counted:
+///
+/// ```
+/// use matrix1000::{report_at, Kind};
+///
+/// let input = [0xFE, 0xF0, 0x10, 0x06, 0xFE, 0x06, 0x15, 0x7F, 0xFE, 0xF7, 0xFE];
+/// let report = report_at(&input, 0).unwrap();
+/// assert_eq!((report.range(), report.kind, report.noise), (1..10, Ok(Kind::Edit), 2));
 /// ```
 #[must_use]
 pub fn report_at(input: &[u8], place: usize) -> Option<Report> {

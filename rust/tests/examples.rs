@@ -289,6 +289,39 @@ fn every_kind_comes_back_from_its_bytes() {
         .map(|report| report.kind.unwrap())
         .collect();
     assert_eq!(kinds, all.map(|message| message.kind()));
+    // Real time between messages counts nowhere.
+    assert!(reports(&stream).all(|report| report.noise == 0));
+}
+
+#[test]
+fn how_noisy_the_line_was() {
+    // In a complete message, an interrupted one and a cut one, and between them.
+    let input = [
+        0xFE, 0xF0, 0x10, 0x06, 0xFE, 0x06, 0x15, 0x7F, 0xF8, 0xF7, 0xFE, 0xF0, 0xFF, 0x90, 0xFE,
+        0xF0, 0xFE,
+    ];
+    let expected = [
+        (1..10, Ok(Kind::Edit), 2),
+        (11..13, Err(Error::Interrupted), 1),
+        (15..17, Err(Error::Cut), 1),
+    ];
+    let heard: Vec<_> = reports(&input)
+        .map(|report| (report.range(), report.kind, report.noise))
+        .collect();
+    assert_eq!(heard, expected);
+    let read: Vec<_> = messages(&input)
+        .map(|found| {
+            let kind = found.message.map(|message| message.kind());
+            (found.range(), kind, found.noise)
+        })
+        .collect();
+    assert_eq!(read, expected);
+
+    let sent = dump(7, Patch::default());
+    let noisy: Vec<u8> = sent.iter().flat_map(|&byte| [byte, 0xFE]).collect();
+    let report = report_at(&noisy, 0).unwrap();
+    assert_eq!(report.kind, Ok(Kind::Patch));
+    assert_eq!((report.range(), report.noise), (0..549, 274));
 }
 
 #[test]

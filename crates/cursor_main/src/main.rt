@@ -1,5 +1,5 @@
-// Prints the reports of the messages on standard input, a line each: start, end, answer, detail and value; behind one with answer 0, the
-// four bytes that come with its record. Each is asked of the cursor crate, from the last end.
+// Prints the reports of the messages on standard input, a line each: start, end, answer, detail, value and noise; behind one with answer 0,
+// the four bytes that come with its record. Each is asked of the cursor crate, from the last end.
 use answers::DONE;
 use answers::NO_MESSAGE;
 use libc::STDIN_FILENO;
@@ -15,7 +15,7 @@ ghost use Rattle.cursor_main.specs.Records.{recordLine};
 
 // A report's line.
 fn put_report(r: Report, room: &mut [u8]) -> usize
-    ensures { λ n. ⌜ Puts (line (r .start) (r .end) (r .outcome)) (now (room .entry)) 0 (now (room .exit)) n ⌝ }
+    ensures { λ n. ⌜ Puts (line (r .start) (r .end) (r .outcome) (r .noise)) (now (room .entry)) 0 (now (room .exit)) n ⌝ }
     ensures { λ n. ⌜ Counts n (now (room .exit)) ⌝ }
 {
     let numbers = [
@@ -24,6 +24,7 @@ fn put_report(r: Report, room: &mut [u8]) -> usize
         r.outcome.answer as usize,
         r.outcome.detail,
         answers::as_number(r.outcome.value),
+        r.noise,
     ];
     listing::put_line(room, 0, numbers)
 }

@@ -1,6 +1,6 @@
 -- The counts of a message's extent, a byte at a time: at an index of the bytes, as a loop has them.
 -- Each law splits the bytes at the index and looks at the kind of the byte there.
-use mathlib.Core.Path.{_≡_, refl, ap}
+use mathlib.Core.Path.{_≡_, refl}
 use mathlib.Core.Bool.{Bool, true, false, cond}
 use mathlib.Core.List.{List, [], _∷_}
 use Prim.Native.Nat.{ℕ, suc, _+_, _<_, _≤_}
@@ -11,9 +11,10 @@ use lib.Dec.{eqb}
 use lib.ListN.{length, getD, drop, drop-of-length-le}
 use lib.Seq.{drop-cons}
 use borrow.Author.Tests.{eq-eqb, ne-eqb}
-use Rattle.streams.specs.Bytes.{dataByte, realTime, ends, body}
-use Rattle.frames.specs.code.Extent.{realTimeIn, ahead, startAt}
-use Rattle.streams.proofs.Bytes.{kind-is, stays, ends-there, body-on, body-stop}
+use Rattle.streams.specs.Bytes.{body}
+use Rattle.frames.specs.code.Extent.{ahead, startAt}
+use Rattle.frames.specs.code.Blocks.{Ends}
+use Rattle.streams.proofs.Bytes.{ends-there, goes-on, body-on, body-stop}
 
 -- The byte at an index and what follows it.
 pub split : (s : List ℕ) (i : ℕ) → i < length s → drop i s ≡ getD s i 0 ∷ drop (i + 1) s
@@ -30,11 +31,8 @@ module _ (s : List ℕ) (i : ℕ) (h : i < length s) where
   ahead-found e = rw (split s i h) (simp (eq-eqb _ _ e))
 
   -- The body goes on over a data byte and over real time, and stops before any other byte.
-  pub body-data : getD s i 0 < 0x80 → body (drop i s) ≡ getD s i 0 ∷ body (drop (i + 1) s)
-  body-data k = rw (split s i h) (body-on _ _ (ap ends (kind-is dataByte _ k)))
-
-  pub body-real-time : 0xF7 < getD s i 0 → body (drop i s) ≡ getD s i 0 ∷ body (drop (i + 1) s)
-  body-real-time k = rw (split s i h) (body-on _ _ (ap ends (kind-is realTime _ k)))
+  pub body-goes : (Ends (getD s i 0) → ⊥) → body (drop i s) ≡ getD s i 0 ∷ body (drop (i + 1) s)
+  body-goes n = rw (split s i h) (body-on _ _ (goes-on _ (λ k l. n (k, l))))
 
   pub body-ended : 0x80 ≤ getD s i 0 → getD s i 0 ≤ 0xF7 → body (drop i s) ≡ []
   body-ended k l = rw (split s i h) (body-stop _ _ (ends-there _ k l))
@@ -47,19 +45,6 @@ ahead-end s i h = rw (drop-of-length-le s h)
 pub body-end : (s : List ℕ) (i : ℕ) → length s ≤ i → body (drop i s) ≡ []
 unfolding body
 body-end s i h = rw (drop-of-length-le s h)
-
--- Real time is counted, any other byte is not.
-pub real-time-data : (b : ℕ) (s : List ℕ) → b ≤ 0xF7 → realTimeIn (b ∷ s) ≡ realTimeIn s
-unfolding realTimeIn
-real-time-data b s k = simp (stays b k)
-
-pub real-time-more : (b : ℕ) (s : List ℕ) → 0xF7 < b → realTimeIn (b ∷ s) ≡ suc (realTimeIn s)
-unfolding realTimeIn
-real-time-more b s k = simp (kind-is realTime b k)
-
-pub real-time-none : realTimeIn [] ≡ 0
-unfolding realTimeIn
-real-time-none = refl
 
 -- No more bytes stand before the first F0H than there are.
 pub ahead-within : (s : List ℕ) → ahead s ≤ length s

@@ -12,7 +12,7 @@ use lib.ListN.{length, drop, length-drop}
 use lib.Seq.{drop-drop}
 use borrow.Author.Tests.{eq-eqb, ne-eqb, eqb-true}
 use Rattle.answers.specs.Table.{Verdict, refused, outcome}
-use Rattle.streams.specs.Bytes.{body, withoutRealTime, framed}
+use Rattle.streams.specs.Bytes.{body, withoutRealTime, realTimeIn, framed}
 use Rattle.frames.specs.code.Extent.{ahead, startAt, endingOf}
 use Rattle.streams.specs.Stream.{report, messageAt, firstFrom, walk}
 use Rattle.streams.proofs.Scan.{further}
@@ -56,18 +56,18 @@ module _ (judge : List ℕ → Verdict) where
   -- A message that is cut or interrupted, and one that is complete.
   module _ (f : ℕ) (t : List ℕ) where
     pub message-refused : (endingOf (drop (length (body t)) t) ≡ 0 → ⊥)
-        → messageAt judge f t ≡ report f (suc f + length (body t)) (refused (outcome (endingOf (drop (length (body t)) t)) 0))
+        → messageAt judge f t ≡ report f (suc f + length (body t)) (refused (outcome (endingOf (drop (length (body t)) t)) 0)) (realTimeIn (body t))
     message-refused n = by-end (drop (length (body t)) t) refl n
       where
         by-end : (r : List ℕ) → drop (length (body t)) t ≡ r → (endingOf r ≡ 0 → ⊥)
-            → messageAt judge f t ≡ report f (suc f + length (body t)) (refused (outcome (endingOf r) 0))
+            → messageAt judge f t ≡ report f (suc f + length (body t)) (refused (outcome (endingOf r) 0)) (realTimeIn (body t))
         by-end [] e k = cut-message judge f t e
         by-end (x ∷ r) e k =
             let other : x ≡ 0xF7 → ⊥ = λ q. k (rw (eq-eqb x 0xF7 q)) in
             rw (ne-eqb x 0xF7 other) (interrupted-message judge f t x r e other)
 
     pub message-complete : endingOf (drop (length (body t)) t) ≡ 0
-        → messageAt judge f t ≡ report f (suc (suc f + length (body t))) (judge (framed (withoutRealTime (body t))))
+        → messageAt judge f t ≡ report f (suc (suc f + length (body t))) (judge (framed (withoutRealTime (body t)))) (realTimeIn (body t))
     message-complete k = by-end (drop (length (body t)) t) refl k
       where
         closing : (x : ℕ) (v : Bool) → eqb x 0xF7 ≡ v → _≡_ {A = ℕ} (cond v 0 3) 0 → x ≡ 0xF7
@@ -75,6 +75,6 @@ module _ (judge : List ℕ → Verdict) where
         closing x false q k = absurd (omega arith)
 
         by-end : (r : List ℕ) → drop (length (body t)) t ≡ r → endingOf r ≡ 0
-            → messageAt judge f t ≡ report f (suc (suc f + length (body t))) (judge (framed (withoutRealTime (body t))))
+            → messageAt judge f t ≡ report f (suc (suc f + length (body t))) (judge (framed (withoutRealTime (body t)))) (realTimeIn (body t))
         by-end [] e k = absurd (omega arith)
         by-end (x ∷ r) e k = let same = closing x (eqb x 0xF7) refl k in closed-message judge f t r (rw same at e)

@@ -7,7 +7,7 @@ use native.Mathlib.Omega.{arith}
 use lib.ListN.{length, getD, drop, length-drop, drop-of-length-le}
 use lib.Seq.{drop-drop, getD-drop}
 use Rattle.streams.specs.Bytes.{realTime, byteKind, isRealTime, withoutRealTime}
-use Rattle.frames.specs.code.Extent.{realTimeIn, realTimeAhead, pastRealTime}
+use Rattle.frames.specs.code.Extent.{realTimeAhead, pastRealTime}
 use Rattle.streams.proofs.Bytes.{kind-is, stays}
 use Rattle.frames.proofs.Extent.{split}
 
@@ -28,21 +28,6 @@ module _ (s : List ℕ) (i : ℕ) (h : i < length s) where
   pub without-kept : getD s i 0 ≤ 0xF7 → withoutRealTime (drop i s) ≡ getD s i 0 ∷ withoutRealTime (drop (i + 1) s)
   unfolding withoutRealTime
   without-kept k = rw (split s i h) (simp (stays _ k))
-
-pub without-end : (s : List ℕ) (i : ℕ) → length s ≤ i → withoutRealTime (drop i s) ≡ []
-unfolding withoutRealTime
-without-end s i h = rw (drop-of-length-le s h)
-
--- Bytes without real time keep every byte.
-pub without-none : (s : List ℕ) → realTimeIn s ≡ 0 → withoutRealTime s ≡ s
-unfolding realTimeIn withoutRealTime
-without-none [] e = refl
-without-none (b ∷ s) e = by-test (isRealTime (byteKind b)) e (without-none s)
-  where
-    by-test : (t : Bool) → cond t (suc (realTimeIn s)) (realTimeIn s) ≡ 0 → (realTimeIn s ≡ 0 → withoutRealTime s ≡ s)
-        → cond t (withoutRealTime s) (b ∷ withoutRealTime s) ≡ b ∷ s
-    by-test true z i = absurd (omega arith)
-    by-test false z i = rw (i z)
 
 pub past-end : (s : List ℕ) (i : ℕ) → length s ≤ i → realTimeAhead (drop i s) ≡ 0
 unfolding realTimeAhead
@@ -66,6 +51,10 @@ first-kept (b ∷ t) h = by-test (isRealTime (byteKind b)) h (first-kept t)
         let further : suc (realTimeAhead t) + 1 ≡ suc (realTimeAhead t + 1) = omega arith in
         record { within = omega (arith, n .within); first = rw further (n .first) }
     by-test false h i = record { within = omega arith; first = refl }
+
+pub past-least : (s : List ℕ) (p : ℕ) → p ≤ pastRealTime s p
+unfolding pastRealTime
+past-least s p = omega arith
 
 pub past-next : (s : List ℕ) (p : ℕ) → 0 < length (withoutRealTime (drop p s)) → Next s (withoutRealTime (drop p s)) (pastRealTime s p)
 unfolding pastRealTime

@@ -7,9 +7,8 @@ ghost use mathlib.Core.Bool.{cond, false};
 ghost use lib.Dec.{eqb};
 ghost use Prim.Native.Nat.{_+_, _≤_};
 ghost use lib.ListN.{length};
-ghost use Rattle.streams.specs.Bytes.{withoutRealTime};
 ghost use Rattle.frames.specs.code.Extent.{ahead, startAt, spanOf, pastRealTime};
-ghost use Rattle.frames.specs.code.Blocks.{None, Ahead, Onward};
+ghost use Rattle.frames.specs.code.Blocks.{None, Ahead, Ends, Onward, heardAmong};
 
 // System exclusive, and end of exclusive: real time lies above it.
 pub const START: u8 = 0xF0;
@@ -22,6 +21,14 @@ pub struct Span {
     pub length: usize,
     pub noise: usize,
     pub ending: u8,
+}
+
+// Whether an F0H stands first: messages mostly follow each other, and then no block has to be looked at.
+fn starts_at_once(rest: &[u8]) -> bool {
+    if 0 < rest.len() {
+        return rest[0] == START;
+    }
+    false
 }
 
 // `false` only where no F0H stands among the 16 bytes from `at` on: without a branch, so that they are seen at once. The caller below
@@ -48,6 +55,9 @@ fn skip_blocks(rest: &[u8]) -> usize
     ensures { λ r. ⌜ Ahead (now (rest .entry)) r ⌝ }
 {
     let mut i: usize = 0;
+    if starts_at_once(rest) {
+        return i;
+    }
     while i + 32 <= rest.len() {
         if block_starts(rest, i) {
             return i;
@@ -111,7 +121,7 @@ fn block_ends(bytes: &[u8], at: usize) -> bool
 
 // How far blocks of 16 data bytes reach from the start.
 fn skip_data(rest: &[u8]) -> usize
-    ensures { λ r. ⌜ Onward (now (rest .entry)) r ⌝ }
+    ensures { λ r. ⌜ Onward (now (rest .entry)) r 0 ⌝ }
 {
     let mut i: usize = 0;
     while i + 16 <= rest.len() {
@@ -123,12 +133,83 @@ fn skip_data(rest: &[u8]) -> usize
     i
 }
 
+// `false` only where none of the 32 bytes from `at` on is in 80H..F7H: these, and no others, come above 87H with 8 more, real time wraps.
+// The caller below has seen that there are 32.
+fn block_breaks(bytes: &[u8], at: usize) -> bool
+    requires { ⌜ at + 32 ≤ length (now bytes) ⌝ }
+    ensures { λ r. ⌜ (r ≡ false → None Ends at 32 (now (bytes .entry))) ⌝ }
+{
+    let mut found: u8 = 0;
+    let mut j: usize = 0;
+    while j < 32 {
+        let moved = std::num::wrapping_add_u8(bytes[at + j], 8);
+        if 0x87 < moved {
+            found = 1;
+            j += 1;
+        } else {
+            j += 1;
+        }
+    }
+    found == 1
+}
+
+// How many of the 32 bytes from `at` on are real time, where none of them ends a message: then those are the bytes from 80H on, and a
+// quotient counts them at once. The caller below has seen that there are 32.
+fn block_noise(bytes: &[u8], at: usize) -> u8
+    requires { ⌜ at + 32 ≤ length (now bytes) ⌝ }
+    ensures { λ r. ⌜ (None Ends at 32 (now (bytes .entry)) → r ≡ heardAmong at 32 (now (bytes .entry))) ⌝ }
+{
+    let mut n: u8 = 0;
+    let mut j: usize = 0;
+    while j < 32 {
+        n += bytes[at + j] / 128;
+        j += 1;
+    }
+    n
+}
+
+// Bytes that were passed over, and how many of them are real time.
+struct Passed {
+    length: usize,
+    noise: usize,
+}
+
+// Whether the message ends at a place: most do where their data bytes end, and then no block has to be looked at.
+fn ends_at(rest: &[u8], at: usize) -> bool {
+    if at < rest.len() {
+        let moved = std::num::wrapping_add_u8(rest[at], 8);
+        return 0x87 < moved;
+    }
+    true
+}
+
+// How far blocks of 32 bytes without an end reach behind the data bytes, and the real time in them. The caller below has passed the data bytes.
+fn skip_noisy(rest: &[u8], from: usize) -> Passed
+    requires { ⌜ Onward (now rest) from 0 ⌝ }
+    ensures { λ r. ⌜ Onward (now (rest .entry)) (r .length) (r .noise) ⌝ }
+{
+    let mut i: usize = from;
+    let mut noise: usize = 0;
+    if ends_at(rest, from) {
+        return Passed { length: i, noise };
+    }
+    while i + 32 <= rest.len() {
+        if block_breaks(rest, i) {
+            return Passed { length: i, noise };
+        }
+        noise += block_noise(rest, i) as usize;
+        i += 32;
+    }
+    Passed { length: i, noise }
+}
+
 // How far a message runs, from the bytes behind its F0H.
 pub fn find_end(rest: &[u8]) -> Span
     ensures { λ r. ⌜ r ≡ spanOf (now (rest .entry)) ⌝ }
 {
-    let mut i: usize = skip_data(rest);
-    let mut noise: usize = 0;
+    let passed = skip_noisy(rest, skip_data(rest));
+    let mut i: usize = passed.length;
+    let mut noise: usize = passed.noise;
     while i < rest.len() {
         let b = rest[i];
         if b < 0x80 {
@@ -163,21 +244,4 @@ pub fn past_real_time(bytes: &[u8], place: usize) -> usize
         i += 1;
     }
     i
-}
-
-// How many bytes are not real time.
-pub fn count_without_real_time(bytes: &[u8]) -> usize
-    ensures { λ r. ⌜ r ≡ length (withoutRealTime (now (bytes .entry))) ⌝ }
-{
-    let mut n: usize = 0;
-    let mut i: usize = 0;
-    while i < bytes.len() {
-        if END < bytes[i] {
-            i += 1;
-        } else {
-            n += 1;
-            i += 1;
-        }
-    }
-    n
 }

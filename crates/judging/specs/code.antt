@@ -1,2 +1,3 @@
 pub mod Content
 pub mod Judged
+pub mod Heard

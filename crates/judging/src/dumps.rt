@@ -2,6 +2,7 @@
 use crate::Judged;
 use crate::accepted;
 use crate::content::FRONT;
+use crate::content::NUMBER;
 use crate::content::byte_at;
 use crate::content::pack_data;
 use crate::refused;
@@ -159,7 +160,7 @@ pub(crate) fn judge_dump(kind: Dump, body: &[u8], count: usize) -> Judged
         return refused_by(WRONG_LENGTH);
     }
     let behind = kind.behind;
-    let number = byte_at(body, count, 3);
+    let number = byte_at(body, count, NUMBER);
     if wrong_number(behind, number) {
         return refused_by(NOT_ALLOWED);
     }

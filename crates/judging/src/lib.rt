@@ -1,4 +1,4 @@
-// What a complete message comes to.
+// What a message comes to.
 pub mod content;
 pub mod dumps;
 pub mod shorts;
@@ -14,6 +14,7 @@ use answers::OTHER_DEVICE;
 use answers::OTHER_MAKER;
 use answers::OTHER_OPCODE;
 use answers::Outcome;
+use frames::Span;
 use messages::kinds::DEVICE;
 use messages::kinds::Kind;
 use messages::kinds::MAKER;
@@ -23,16 +24,23 @@ ghost use mathlib.Core.Path.{_≡_};
 ghost use lib.ListN.{length};
 ghost use Rattle.answers.specs.Effect.{Gives};
 ghost use Rattle.answers.specs.Table.{outcome};
-ghost use Rattle.streams.specs.Bytes.{framed};
+ghost use Rattle.streams.specs.Bytes.{withoutRealTime, realTimeIn, framed};
 ghost use Rattle.messages.specs.Kinds.{kindOf};
 ghost use Rattle.messages.specs.Judge.{judge};
-ghost use Rattle.judging.specs.code.Content.{contentOf, contentBy};
+ghost use Rattle.judging.specs.code.Content.{contentBy};
 ghost use Rattle.judging.specs.code.Judged.{kindVerdict, judged, judgedAs, refusedBy, recordedAs};
+ghost use Rattle.judging.specs.code.Heard.{heardFrom, recordedFrom};
 
 // An outcome, and the bytes that come with it: a patch number, or an edit's two or four; zero where there are none.
 pub struct Judged {
     pub outcome: Outcome,
     pub bytes: [u8; 4],
+}
+
+// How far a message runs, and what it comes to.
+pub struct Heard {
+    pub span: Span,
+    pub judged: Judged,
 }
 
 // Refused: no bytes come with the answer.
@@ -98,17 +106,18 @@ fn judge_content(body: &[u8], count: usize) -> Judged
     judge_kind(byte_at(body, count, 2), body, count)
 }
 
-// What a complete message comes to, from what stands between F0H and F7H. `noise` is how many real-time bytes the caller heard there: where
-// that is none, every byte counts as content; else real time is dropped.
-pub fn judge_body(body: &[u8], noise: usize) -> Judged
-    ensures { λ r. ⌜ r ≡ judged (judge (framed (contentOf noise (now (body .entry))))) ⌝ }
+// What a complete message comes to, from what stands between F0H and F7H. The caller below has counted the real time there.
+fn judge_body(body: &[u8], noise: usize) -> Judged
+    requires { ⌜ noise ≡ realTimeIn (now body) ⌝ }
+    ensures { λ r. ⌜ r ≡ judged (judge (framed (withoutRealTime (now (body .entry))))) ⌝ }
 {
     judge_content(body, count_content(body, noise))
 }
 
 // The same with its packed bytes at the start of a lent buffer: as judged, then 13. Refused, the buffer keeps every byte.
-pub fn record_body(body: &[u8], noise: usize, buffer: &mut [u8]) -> Judged
-    ensures { λ r. ⌜ Gives (recordedAs (judge (framed (contentOf noise (now (body .entry))))) (now (buffer .entry))) r (now (buffer .exit)) ⌝ }
+fn record_body(body: &[u8], noise: usize, buffer: &mut [u8]) -> Judged
+    requires { ⌜ noise ≡ realTimeIn (now body) ⌝ }
+    ensures { λ r. ⌜ Gives (recordedAs (judge (framed (withoutRealTime (now (body .entry))))) (now (buffer .entry))) r (now (buffer .exit)) ⌝ }
 {
     let count = count_content(body, noise);
     let j = judge_content(body, count);
@@ -123,4 +132,40 @@ pub fn record_body(body: &[u8], noise: usize, buffer: &mut [u8]) -> Judged
         pack_data(body, count, &mut buffer[..size]);
     }
     j
+}
+
+// The message whose F0H stands just before `rest`: how far it runs, and what it comes to, by document 01's table from 2 on.
+pub fn judge_from(rest: &[u8]) -> Heard
+    ensures { λ r. ⌜ r ≡ heardFrom (now (rest .entry)) ⌝ }
+{
+    let span = frames::find_end(rest);
+    if span.ending != DONE {
+        return Heard {
+            span,
+            judged: refused_by(span.ending),
+        };
+    }
+    let n = span.length;
+    Heard {
+        span,
+        judged: judge_body(&rest[..n], span.noise),
+    }
+}
+
+// The same with its packed bytes at the start of a lent buffer: as judged, then 13. Refused, the buffer keeps every byte.
+pub fn record_from(rest: &[u8], buffer: &mut [u8]) -> Heard
+    ensures { λ r. ⌜ Gives (recordedFrom (now (rest .entry)) (now (buffer .entry))) r (now (buffer .exit)) ⌝ }
+{
+    let span = frames::find_end(rest);
+    if span.ending != DONE {
+        return Heard {
+            span,
+            judged: refused_by(span.ending),
+        };
+    }
+    let n = span.length;
+    Heard {
+        span,
+        judged: record_body(&rest[..n], span.noise, buffer),
+    }
 }

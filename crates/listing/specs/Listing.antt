@@ -15,16 +15,16 @@ abbrev pub most : ℕ
 most = 65536
 
 unfoldable pub header : List ℕ
-header = ascii "start end answer detail value\n"
+header = ascii "start end answer detail value rt\n"
 
--- A line: where a message starts and ends, its answer, detail and value.
-abbrev pub line : ℕ → ℕ → Outcome → List ℕ
-line start end o = spaced (start ∷ end ∷ o .answer ∷ o .detail ∷ []) ++ signed (o .value) 0x0A
+-- A line: where a message starts and ends, its answer, detail and value, and how many real-time bytes stood in it.
+abbrev pub line : ℕ → ℕ → Outcome → ℕ → List ℕ
+line start end o noise = spaced (start ∷ end ∷ o .answer ∷ o .detail ∷ []) ++ (signed (o .value) 0x20 ++ followed noise 0x0A)
 
 -- A line for each report.
 unfoldable pub lines : List Report → List ℕ
 lines [] = []
-lines (r ∷ rs) = line (r .start) (r .end) (outcomeIn r) ++ lines rs
+lines (r ∷ rs) = line (r .start) (r .end) (outcomeIn r) (r .noise) ++ lines rs
 
 -- The last line: how many messages there are.
 unfoldable pub total : ℕ → List ℕ

@@ -1,5 +1,7 @@
-// The listing of an input, made piece by piece into lent room: a header, a line for each message with its start, end, answer, detail and
-// value, and a line with how many messages there are; or `input too long` alone. Begin with `Left::Whole` and write each piece, until nothing is left.
+// The listing of an input, made piece by piece into lent room: a header, a line for each message with its start, end, answer, detail,
+// value and noise, and a line with how many messages there are; or `input too long` alone. Begin with `Left::Whole` and write each piece, until
+// nothing is left.
+use reading::listing::NOISE;
 use reading::listing::VALUE;
 use reading::listing::WIDTH;
 ghost use Prim.Native.Nat.{_*_, _≤_};
@@ -48,7 +50,7 @@ fn put_first(s: &[u8], room: &mut [u8], at: usize) -> Piece
         };
     }
     Piece {
-        len: text::put(room, at, b"start end answer detail value\n"),
+        len: text::put(room, at, b"start end answer detail value rt\n"),
         left: Left::From(0, 0),
     }
 }
@@ -61,12 +63,13 @@ fn put_total(room: &mut [u8], at: usize, messages: usize) -> usize
     text::put_number(room, end, messages, b'\n')
 }
 
-// The line of a report: start, end, answer, detail, and the value in two's complement.
+// The line of a report: start, end, answer, detail, the value in two's complement, and the noise.
 pub fn put_line(room: &mut [u8], at: usize, numbers: [usize; WIDTH]) -> usize
     ensures { λ r. ⌜ Puts (lineOf numbers) (now (room .entry)) at (now (room .exit)) r ⌝ }
 {
     let end = text::put_spaced(room, at, &numbers[..VALUE]);
-    text::put_signed(room, end, numbers[VALUE], b'\n')
+    let behind = text::put_signed(room, end, numbers[VALUE], b' ');
+    text::put_number(room, behind, numbers[NOISE], b'\n')
 }
 
 // The lines of `count` reports, whose numbers stand one behind the other.
@@ -84,6 +87,7 @@ fn put_lines(room: &mut [u8], at: usize, numbers: &[usize], count: usize) -> usi
             numbers[k + 2],
             numbers[k + 3],
             numbers[k + 4],
+            numbers[k + 5],
         ];
         end = put_line(room, end, line);
         i += 1;

@@ -88,10 +88,10 @@ module _ (r : Report) (rs : List Report) (old xs : List ℕ) (h : width ≤ leng
 module _ (s : List ℕ) (f : ℕ) (old xs : List ℕ) (h : width ≤ length old) (e : xs ≡ numbersOf (messageAt judge f s) ++ drop width old)
     (tells : ReadsBack (messageAt judge f s)) where
   pub lists-on : (n : ℕ) → n ≡ length (body s) → (st : ℕ → State) (q : ℕ) → q ≡ suc (f + 1 + n)
-      → scan judge (suc f) (inside f []) s
+      → scan judge (suc f) (inside f [] 0) s
       ≡ messageAt judge f s ∷ scan judge (suc (suc f + length (body s))) (st (suc f + length (body s))) (drop (length (body s) + 1) s)
       → (ys : List ℕ) (k : ℕ) → PartHolds xs (scan judge q (st (f + 1 + n)) (take (length s - (n + 1)) (drop (n + 1) s))) ys k
-      → Holds (fitting old (scan judge (suc f) (inside f []) s)) old (putMid width (length xs - width) xs ys) (1 + k)
+      → Holds (fitting old (scan judge (suc f) (inside f [] 0) s)) old (putMid width (length xs - width) xs ys) (1 + k)
   lists-on n index st q next on ys k l =
       let place : f + 1 + length (body s) ≡ suc f + length (body s) = omega arith in
       rw on (lists-more (messageAt judge f s) _ old xs h e tells ys k (rw (to-end (n + 1) s, next, index, place) at l))

@@ -1,113 +1,91 @@
--- What a message comes to by its span: the length of its body, the real time in it, and how it ends.
-use mathlib.Core.Path.{_≡_, refl, sym, ap, subst, _∙_}
+-- A message that was heard, with its places: it comes to the same wherever its F0H stands, and ends there by its span.
+use mathlib.Core.Path.{_≡_, refl, sym, ap, _∙_}
 use mathlib.Core.Bool.{Bool, true, false, cond}
 use mathlib.Core.List.{List, [], _∷_, _++_}
-use Prim.Native.Nat.{ℕ, zero, suc, _+_, _≤_, _<_}
+use Prim.Native.Nat.{ℕ, suc, _+_, _≤_, _<_}
 use native.Mathlib.Omega.{arith}
-use lib.Dec.{leb}
-use lib.ListN.{length, take, drop, length-drop}
-use lib.Seq.{length-take-le}
-use Rattle.answers.specs.Table.{Verdict, done, refused, outcome, four}
+use lib.Dec.{eqb, leb}
+use lib.ListN.{length, drop, length-drop}
+use borrow.Author.Tests.{eqb-true, eqb-false}
+use Rattle.answers.specs.Table.{Verdict, done, refused, outcome}
 use Rattle.answers.specs.Effect.{Effect, Gives, toldAs}
-use Rattle.streams.specs.Bytes.{body, withoutRealTime, framed}
-use Rattle.frames.specs.code.Extent.{realTimeIn, spanOf, endingOf}
-use Rattle.streams.specs.Stream.{messageAt, reading}
+use Rattle.streams.specs.Bytes.{body, realTimeIn}
+use Rattle.streams.specs.Stream.{report, messageAt, reading, readInto}
 use Rattle.streams.specs.Stream as stream
-use Rattle.frames.specs.declared.Span.{Span}
-use Rattle.streams.proofs.Bytes.{body-within, body-take}
-use Rattle.frames.proofs.RealTime.{without-none}
+use Rattle.streams.proofs.Bytes.{body-within}
+use Rattle.frames.specs.code.Extent.{spanOf, endingOf}
 use Rattle.frames.proofs.Found.{message-refused, message-complete}
 use Rattle.messages.specs.Judge.{judge}
-use Rattle.judging.specs.code.Content.{contentOf}
-use Rattle.judging.specs.code.Judged.{judged, told, recordedAs}
+use Rattle.judging.specs.declared.Heard.{Heard}
 use Rattle.judging.specs.declared.Judged.{Judged}
-use Rattle.reading.specs.code.Told.{reportAs, reportOf, readingAs, readingOf, recorded, readMessage}
-use Rattle.reading.specs.declared.recording.Reading.{Reading}
+use Rattle.judging.specs.code.Judged.{told, recordedAs}
+use Rattle.judging.specs.code.Heard.{verdictFrom, heardAs, heardFrom, recordedFrom}
+use Rattle.reading.specs.code.Told.{endFrom, reportOf, reportFrom, readingOf, readingFrom, readMessage}
 
--- Packed bytes that fit, or not.
-abbrev fitted : ℕ → ℕ → ℕ → List ℕ → List ℕ → List ℕ → Bool → Effect stream.Reading
-fitted f e op b p lent t =
-    cond t (record { result = reading f e (outcome 0 op) b; lent = p ++ drop (length p) lent }) (record { result = reading f e (outcome 13 0) []; lent = lent })
-
--- A record with the places of its message.
-placed : (f e : ℕ) (v : Verdict) (lent : List ℕ) (j : Judged) (after : List ℕ) → Gives (recordedAs v lent) j after
-    → Gives (recorded f e v lent) (readingAs f e (j .outcome) (j .bytes)) after
-placed f e (refused o) lent j after g = record { result = rw (g .result); lent = g .lent }
-placed f e (done op b p) lent j after g = by-test (leb (length p) (length lent)) g
-  where
-    by-test : (t : Bool) → Gives (toldAs told (fitted 0 0 op b p lent t)) j after
-        → Gives (toldAs readingOf (fitted f e op b p lent t)) (readingAs f e (j .outcome) (j .bytes)) after
-    by-test true g = record { result = rw (g .result); lent = g .lent }
-    by-test false g = record { result = rw (g .result); lent = g .lent }
-
--- The content, by how much real time was heard in it.
-heard : (noise : ℕ) (b : List ℕ) → noise ≡ realTimeIn b → contentOf noise b ≡ withoutRealTime b
-heard zero b e = sym (without-none b (sym e))
-heard (suc noise) b e = refl
-
-module _ (t : List ℕ) (s : Span) (e : s ≡ spanOf t) where
-  pub span-length : s .length ≡ length (body t)
+module _ (t : List ℕ) where
+  pub span-length : spanOf t .length ≡ length (body t)
   unfolding spanOf
-  span-length = ap (λ (x : Span). x .length) e
+  span-length = refl
 
-  span-noise : s .noise ≡ realTimeIn (body t)
+  abbrev ended : ℕ
+  ended = endingOf (drop (length (body t)) t)
+
+  -- The message at place f.
+  pub placed-message : (f : ℕ) → messageAt judge f t ≡ report f (endFrom f (spanOf t)) (verdictFrom t) (spanOf t .noise)
   unfolding spanOf
-  span-noise = ap (λ (x : Span). x .noise) e
-
-  pub span-ending : s .ending ≡ endingOf (drop (length (body t)) t)
-  unfolding spanOf
-  span-ending = ap (λ (x : Span). x .ending) e
-
-  pub span-within : s .length ≤ length t
-  span-within = omega (arith, span-length, body-within t)
-
-  pub span-taken : s .length ≡ length (take (s .length) t)
-  span-taken = sym (length-take-le (s .length) t span-within)
-
-  -- The bytes that the span counts are the body.
-  span-body : take (s .length) t ≡ body t
-  span-body = rw span-length (body-take t)
-
-  -- What is judged is the body without its real time.
-  pub span-content : contentOf (s .noise) (take (s .length) t) ≡ withoutRealTime (body t)
-  span-content = rw span-body (heard (s .noise) (body t) span-noise)
-
-  pub place-behind : (f : ℕ) → suc f + length (body t) ≡ f + 1 + s .length
-  place-behind f = omega (arith, span-length)
-
-  -- A message that is cut or interrupted, and one that is complete.
-  pub report-ended : (f : ℕ) → (s .ending ≡ 0 → ⊥)
-      → reportAs f (f + 1 + s .length) (outcome (s .ending) 0) ≡ reportOf (messageAt judge f t)
-  report-ended f n =
-      rw (message-refused judge f t (λ z. n (span-ending ∙ z)), span-ending, place-behind f)
-
-  pub report-judged : (f : ℕ) (j : Judged) → s .ending ≡ 0 → j ≡ judged (judge (framed (contentOf (s .noise) (take (s .length) t))))
-      → reportAs f (f + 1 + s .length + 1) (j .outcome) ≡ reportOf (messageAt judge f t)
-  report-judged f j z q =
-      let v = judge (framed (withoutRealTime (body t))) in
-      let j′ : j ≡ judged v = q ∙ ap (λ (c : List ℕ). judged (judge (framed c))) span-content in
-      let end : suc (suc f + length (body t)) ≡ f + 1 + s .length + 1 = omega (arith, span-length) in
-      rw (message-complete judge f t (sym span-ending ∙ z), end, j′)
-
-  -- A complete message has a byte behind its body.
-  pub span-closed : s .ending ≡ 0 → s .length < length t
-  span-closed z = by-rest (drop (length (body t)) t) refl (sym span-ending ∙ z)
+  placed-message f = by-test (eqb ended 0) refl
     where
-      by-rest : (r : List ℕ) → drop (length (body t)) t ≡ r → endingOf r ≡ 0 → s .length < length t
-      by-rest [] q k = absurd (omega arith)
-      by-rest (x ∷ r) q k = omega (arith, span-length, ap length q, length-drop (length (body t)) t)
+      by-test : (v : Bool) → eqb ended 0 ≡ v
+          → messageAt judge f t ≡ report f (f + 1 + length (body t) + cond v 1 0) (verdictFrom t) (realTimeIn (body t))
+      by-test true q =
+          let z = eqb-true ended 0 q in
+          let end : suc (suc f + length (body t)) ≡ f + 1 + length (body t) + 1 = omega arith in
+          message-complete judge f t z
+          ∙ rw (end, ap (λ (r : stream.Report). r .verdict) (message-complete judge 0 t z))
+      by-test false q =
+          let n = eqb-false ended 0 q in
+          let end : suc f + length (body t) ≡ f + 1 + length (body t) + 0 = omega arith in
+          message-refused judge f t n
+          ∙ rw (end, ap (λ (r : stream.Report). r .verdict) (message-refused judge 0 t n))
 
-  -- The same read into a lent buffer.
-  pub read-ended : (f : ℕ) (lent : List ℕ) (r : Reading) → (s .ending ≡ 0 → ⊥) → r ≡ readingAs f (f + 1 + s .length) (outcome (s .ending) 0) (four [])
-      → Gives (readMessage f t lent) r lent
-  read-ended f lent r n k =
-      rw (message-refused judge f t (λ z. n (span-ending ∙ z))) (record { result = k ∙ rw (span-ending, place-behind f); lent = refl })
+  pub report-from : (f : ℕ) → reportFrom f (heardFrom t) ≡ reportOf (messageAt judge f t)
+  report-from f = rw (placed-message f)
 
-  pub read-complete : (f : ℕ) (lent : List ℕ) (j : Judged) (after : List ℕ) → s .ending ≡ 0
-      → Gives (recordedAs (judge (framed (contentOf (s .noise) (take (s .length) t)))) lent) j after
-      → Gives (readMessage f t lent) (readingAs f (f + 1 + s .length + 1) (j .outcome) (j .bytes)) after
-  read-complete f lent j after z g =
-      let end : suc (suc f + length (body t)) ≡ f + 1 + s .length + 1 = omega (arith, span-length) in
-      let v = judge (framed (withoutRealTime (body t))) in
-      let g′ = subst (λ (c : List ℕ). Gives (recordedAs (judge (framed c)) lent) j after) span-content g in
-      rw (message-complete judge f t (sym span-ending ∙ z), end) (placed f (f + 1 + s .length + 1) v lent j after g′)
+  -- A complete message has a byte behind its body, so it ends within the bytes.
+  pub end-within : (f : ℕ) → endFrom f (spanOf t) ≤ f + 1 + length t
+  unfolding spanOf
+  end-within f = by-rest (drop (length (body t)) t) refl
+    where
+      by-rest : (r : List ℕ) → drop (length (body t)) t ≡ r → f + 1 + length (body t) + cond (eqb (endingOf r) 0) 1 0 ≤ f + 1 + length t
+      by-rest [] q = omega (arith, body-within t)
+      by-rest (x ∷ r) q = by-test (eqb (endingOf (x ∷ r)) 0)
+        where
+          by-test : (v : Bool) → f + 1 + length (body t) + cond v 1 0 ≤ f + 1 + length t
+          by-test true = omega (arith, ap length q, length-drop (length (body t)) t)
+          by-test false = omega (arith, body-within t)
+
+  -- Its packed bytes fit a lent buffer, or not.
+  abbrev fitted : ℕ → ℕ → ℕ → ℕ → List ℕ → List ℕ → List ℕ → Bool → Effect stream.Reading
+  fitted f e n op b p lent v =
+      cond v
+      (record { result = reading f e (outcome 0 op) n b; lent = p ++ drop (length p) lent })
+      (record { result = reading f e (outcome 13 0) n []; lent = lent })
+
+  -- Its record, with its places and its noise.
+  placed : (f e n : ℕ) (v : Verdict) (lent : List ℕ) (j : Judged) (after : List ℕ) → Gives (recordedAs v lent) j after
+      → Gives (toldAs readingOf (readInto f e v n lent)) (record { report = record { start = f; end = e; outcome = j .outcome; noise = n }; bytes = j .bytes }) after
+  placed f e n (refused o) lent j after g = record { result = rw (g .result); lent = g .lent }
+  placed f e n (done op b p) lent j after g = by-test (leb (length p) (length lent)) g
+    where
+      by-test : (v : Bool) → Gives (toldAs told (fitted 0 0 0 op b p lent v)) j after
+          → Gives (toldAs readingOf (fitted f e n op b p lent v))
+          (record { report = record { start = f; end = e; outcome = j .outcome; noise = n }; bytes = j .bytes }) after
+      by-test true g = record { result = rw (g .result); lent = g .lent }
+      by-test false g = record { result = rw (g .result); lent = g .lent }
+
+  pub read-from : (f : ℕ) (lent : List ℕ) (h : Heard) (after : List ℕ) → Gives (recordedFrom t lent) h after
+      → Gives (readMessage f t lent) (readingFrom f h) after
+  read-from f lent h after g =
+      let j = recordedAs (verdictFrom t) lent .result in
+      let p = placed f (endFrom f (spanOf t)) (spanOf t .noise) (verdictFrom t) lent j after (record { result = refl; lent = g .lent }) in
+      rw (placed-message f, g .result) p

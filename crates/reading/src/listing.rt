@@ -1,6 +1,6 @@
 // The reports of a stream, by two states: outside a message and inside one, that hand the rest of the input to each other.
 use crate::walking::Report;
-use crate::walking::report_at;
+use crate::walking::report_of;
 ghost use mathlib.Core.Path.{_≡_};
 ghost use mathlib.Core.List.{_++_};
 ghost use Prim.Native.Nat.{_+_, _^_, _<_, _≤_};
@@ -18,10 +18,12 @@ pub struct Listed {
 }
 
 // How many numbers a report has.
-pub const WIDTH: usize = 5;
+pub const WIDTH: usize = 6;
 
-// Where the value stands among them.
+// Where the value stands among them, and the noise behind it.
 pub const VALUE: usize = 4;
+
+pub const NOISE: usize = 5;
 
 // One call makes at most so many reports, which bounds how many calls of the two states are under way.
 pub const MOST: usize = 8;
@@ -39,6 +41,7 @@ fn put_report(r: Report, room: &mut [usize])
     room[2] = r.outcome.answer as usize;
     room[3] = r.outcome.detail;
     room[VALUE] = answers::as_number(r.outcome.value);
+    room[NOISE] = r.noise;
 }
 
 // Outside a message: on to the next F0H, if there is room for one more report.
@@ -64,9 +67,9 @@ fn list_inside(rest: &[u8], start: usize, room: &mut [usize]) -> usize
     if room.len() < WIDTH {
         return 0;
     }
-    let span = frames::find_end(rest);
-    let n = span.length;
-    put_report(report_at(rest, start, span), room);
+    let heard = judging::judge_from(rest);
+    let n = heard.span.length;
+    put_report(report_of(start, heard), room);
     if rest.len() <= n {
         return 1;
     }

@@ -1,14 +1,17 @@
 -- Which bytes each kind has, and what follows for the bytes that end a message.
 -- Each law goes by the tests of `byteKind` in their order.
-use mathlib.Core.Path.{_≡_, refl, ap}
+use mathlib.Core.Path.{_≡_, refl, ap, _∙_}
 use mathlib.Core.Bool.{Bool, true, false, cond}
-use mathlib.Core.List.{List, [], _∷_}
-use Prim.Native.Nat.{ℕ, suc, _≤_, _<_}
+use mathlib.Core.List.{List, [], _∷_, _++_}
+use mathlib.Core.Logic.{_↔_}
+use Prim.Native.Nat.{ℕ, suc, _+_, _≤_, _<_}
 use native.Mathlib.Omega.{arith}
 use lib.Dec.{eqb, ltb}
 use lib.ListN.{length, take, drop}
+use lib.Seq.{take-add}
 use borrow.Author.Tests.{ne-eqb, lt-ltb, le-ltb, eqb-true, eqb-false, ltb-true, ltb-false}
 use Rattle.streams.specs.Bytes.{ByteKind, dataByte, exclusive, endOfExclusive, otherStatus, realTime, byteKind, ends, isRealTime, body}
+use Rattle.streams.specs.promises.Kinds.{KindOf}
 
 -- The bytes of a kind.
 abbrev pub Lies : ByteKind → ℕ → Type 0
@@ -45,6 +48,9 @@ lies b = go (ltb b 0x80) (eqb b 0xF0) (eqb b 0xF7) (ltb b 0xF8) refl refl refl r
 pub lies-in : (k : ByteKind) (b : ℕ) → byteKind b ≡ k → Lies k b
 lies-in k b e = rw e at (lies b)
 
+no : false ≡ true → ⊥
+no e = let z : _≡_ {A = ℕ} 0 1 = ap (λ (t : Bool). cond t 1 0) e in omega arith
+
 -- A byte below F8H is not real time.
 pub not-real-time : (y : ℕ) → y < 0xF8 → byteKind y ≡ realTime → ⊥
 not-real-time y h e = let l = lies-in realTime y e in omega arith
@@ -70,6 +76,35 @@ ends-there b h h′ = go (byteKind b) (lies b)
     go endOfExclusive l = refl
     go otherStatus l = refl
     go realTime l = absurd (omega arith)
+
+-- Any other byte does not.
+pub goes-on : (b : ℕ) → (0x80 ≤ b → b ≤ 0xF7 → ⊥) → ends (byteKind b) ≡ false
+goes-on b n = go (byteKind b) (lies b)
+  where
+    go : (k : ByteKind) → Lies k b → ends k ≡ false
+    go dataByte l = refl
+    go exclusive l = absurd (n (omega arith) (omega arith))
+    go endOfExclusive l = absurd (n (omega arith) (omega arith))
+    go otherStatus l = absurd (n (omega arith) (omega arith))
+    go realTime l = refl
+
+-- Both the other way round too.
+pub kind-of : (b : ℕ) → KindOf b
+kind-of b = record { real-time = real (byteKind b) (lies b); ending = last (byteKind b) (lies b) }
+  where
+    real : (k : ByteKind) → Lies k b → (isRealTime k ≡ true) ↔ (0xF8 ≤ b)
+    real dataByte l = ((λ e. absurd (no e)), λ h. absurd (omega arith))
+    real exclusive l = ((λ e. absurd (no e)), λ h. absurd (omega arith))
+    real endOfExclusive l = ((λ e. absurd (no e)), λ h. absurd (omega arith))
+    real otherStatus l = ((λ e. absurd (no e)), λ h. absurd (omega arith))
+    real realTime l = ((λ e. l), λ h. refl)
+
+    last : (k : ByteKind) → Lies k b → (ends k ≡ true) ↔ ((0x80 ≤ b) × (b < 0xF8))
+    last dataByte l = ((λ e. absurd (no e)), λ h. absurd (omega arith))
+    last exclusive l = ((λ e. (omega arith, omega arith)), λ h. refl)
+    last endOfExclusive l = ((λ e. (omega arith, omega arith)), λ h. refl)
+    last otherStatus l = ((λ e. (omega arith, omega arith)), λ h. refl)
+    last realTime l = ((λ e. absurd (no e)), λ h. absurd (omega arith))
 
 -- What a byte that ends a message can be.
 pub data Ending (x : ℕ) : Type 0 where
@@ -128,3 +163,7 @@ body-take (b ∷ t) = go (ends (byteKind b)) (body-take t)
     go : (v : Bool) → take (length (body t)) t ≡ body t → take (length (cond v [] (b ∷ body t))) (b ∷ t) ≡ cond v [] (b ∷ body t)
     go true i = refl
     go false i = ap (λ (l : List ℕ). b ∷ l) i
+
+-- With the F7H that closes it, one more.
+pub body-closed : (t r : List ℕ) → drop (length (body t)) t ≡ 0xF7 ∷ r → take (length (body t) + 1) t ≡ body t ++ (0xF7 ∷ [])
+body-closed t r e = take-add (length (body t)) 1 t ∙ rw (body-take t, e)

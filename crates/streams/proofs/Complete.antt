@@ -15,10 +15,11 @@ use Rattle.answers.specs.Lists.{All}
 use Rattle.answers.specs.Table.{Verdict, answerOf}
 use Rattle.answers.proofs.Lists.{all-weaken}
 use Rattle.streams.specs.Bytes.{ByteKind, dataByte, exclusive, endOfExclusive, otherStatus, realTime}
-use Rattle.streams.specs.Bytes.{byteKind, ends, isRealTime, body, withoutRealTime, framed}
-use Rattle.streams.specs.Stream.{Report, report, messageAt, firstFrom, walk}
+use Rattle.streams.specs.Bytes.{byteKind, isRealTime, body, withoutRealTime, realTimeIn, framed}
+use Rattle.streams.specs.Stream.{Report, report, between, messageAt, firstFrom, walk}
 use Rattle.streams.specs.code.Scan.{outside, scan}
-use Rattle.streams.proofs.Bytes.{lies-in, kind-is, body-on, body-stop}
+use Rattle.streams.proofs.Bytes.{lies-in, kind-is, body-on, body-stop, body-closed}
+use Rattle.streams.proofs.Noise.{none-dropped}
 use Rattle.streams.proofs.Scan.{DataByte, further}
 use Rattle.streams.proofs.Walk.{cut-message, closed-message, interrupted-message}
 use Rattle.streams.proofs.Closing.{scan-close}
@@ -38,8 +39,11 @@ unfolding withoutRealTime
 without-data [] a = refl
 without-data (b ∷ c) a = rw (a .0, without-data c (a .1))
 
+quiet-data : (c : List ℕ) → All DataByte c → realTimeIn c ≡ 0
+quiet-data c a = none-dropped c (without-data c a)
+
 -- Real time is dropped from two runs of bytes one by one.
-without-append : (u v : List ℕ) → withoutRealTime (u ++ v) ≡ withoutRealTime u ++ withoutRealTime v
+pub without-append : (u v : List ℕ) → withoutRealTime (u ++ v) ≡ withoutRealTime u ++ withoutRealTime v
 unfolding withoutRealTime
 without-append [] v = refl
 without-append (b ∷ u) v = go (isRealTime (byteKind b)) refl (without-append u v)
@@ -50,19 +54,9 @@ without-append (b ∷ u) v = go (isRealTime (byteKind b)) refl (without-append u
     go false q i = rw (q, i)
 
 -- F0H and F7H are not real time.
-without-framed : (b : List ℕ) → withoutRealTime (framed b) ≡ framed (withoutRealTime b)
+pub without-framed : (b : List ℕ) → withoutRealTime (framed b) ≡ framed (withoutRealTime b)
 unfolding withoutRealTime
 without-framed b = rw (kind-is exclusive 0xF0 refl, without-append b (0xF7 ∷ []), kind-is endOfExclusive 0xF7 refl)
-
--- The bytes of the body are the first ones.
-take-body : (t : List ℕ) → take (length (body t)) t ≡ body t
-unfolding body
-take-body [] = refl
-take-body (b ∷ t) = go (ends (byteKind b)) refl (take-body t)
-  where
-    go : (v : Bool) → ends (byteKind b) ≡ v → take (length (body t)) t ≡ body t → take (length (body (b ∷ t))) (b ∷ t) ≡ body (b ∷ t)
-    go true q i = rw q
-    go false q i = rw (q, i)
 
 -- What is left of a body without its real time is data bytes.
 pub content-data : (t : List ℕ) → All (λ b. b < 0x80) (withoutRealTime (body t))
@@ -80,17 +74,17 @@ content-data (b ∷ t) = by-kind (byteKind b) refl (content-data t)
 module _ (judge : List ℕ → Verdict) where
   -- An F0H at place f before data bytes and F7H is a message of those bytes.
   message-framed : (f : ℕ) (c behind : List ℕ) → All DataByte c
-      → messageAt judge f (c ++ 0xF7 ∷ behind) ≡ report f (f + length (framed c)) (judge (framed c))
+      → messageAt judge f (c ++ 0xF7 ∷ behind) ≡ report f (f + length (framed c)) (judge (framed c)) 0
   message-framed f c behind a =
       let whole = body-data c behind a in
       let rest : drop (length (body (c ++ 0xF7 ∷ behind))) (c ++ 0xF7 ∷ behind) ≡ 0xF7 ∷ behind = rw whole (drop-append-seam c (0xF7 ∷ behind)) in
       let last : suc (suc f + length c) ≡ f + length (framed c) = omega (arith, length-append c (0xF7 ∷ [])) in
-      closed-message judge f (c ++ 0xF7 ∷ behind) behind rest ∙ rw (whole, without-data c a, last)
+      closed-message judge f (c ++ 0xF7 ∷ behind) behind rest ∙ rw (whole, without-data c a, quiet-data c a, last)
 
   -- The walk from the place of a message of data bytes finds that message.
   pub walk-framed : (before c behind : List ℕ) → All DataByte c
       → walk judge (before ++ (framed c ++ behind)) (length before)
-      ≡ some (report (length before) (length before + length (framed c)) (judge (framed c)))
+      ≡ some (report (length before) (length before + length (framed c)) (judge (framed c)) 0)
   unfolding walk firstFrom
   walk-framed before c behind a =
       rw (drop-append-seam before (framed c ++ behind), append-assoc c (0xF7 ∷ []) behind) (ap some (message-framed (length before) c behind a))
@@ -98,19 +92,19 @@ module _ (judge : List ℕ → Verdict) where
   -- The scan from outside reports it, and goes on behind it.
   pub scan-framed : (p : ℕ) (c behind : List ℕ) → All DataByte c
       → scan judge p outside (framed c ++ behind)
-      ≡ report p (p + length (framed c)) (judge (framed c)) ∷ scan judge (p + length (framed c)) outside behind
+      ≡ report p (p + length (framed c)) (judge (framed c)) 0 ∷ scan judge (p + length (framed c)) outside behind
   scan-framed p c behind a =
       let last : suc (suc p + length c) ≡ p + length (framed c) = omega (arith, length-append c (0xF7 ∷ [])) in
-      rw (kind-is exclusive 0xF0 refl, append-assoc c (0xF7 ∷ []) behind, scan-close judge c a (suc p) p [] behind, last)
+      rw (kind-is exclusive 0xF0 refl, append-assoc c (0xF7 ∷ []) behind, scan-close judge c a (suc p) p 0 [] behind, last)
 
   -- What the walk finds: an F0H, and the message there.
-  record There (p : ℕ) (l : List ℕ) (r : Report) : Type 0 where
-    skipped : ℕ
-    rest : List ℕ
-    at : drop skipped l ≡ 0xF0 ∷ rest
-    found : r ≡ messageAt judge (p + skipped) rest
+  pub record There (p : ℕ) (l : List ℕ) (r : Report) : Type 0 where
+    pub skipped : ℕ
+    pub rest : List ℕ
+    pub at : drop skipped l ≡ 0xF0 ∷ rest
+    pub found : r ≡ messageAt judge (p + skipped) rest
 
-  there : (l : List ℕ) (p : ℕ) (r : Report) → firstFrom judge p l ≡ some r → There p l r
+  pub there : (l : List ℕ) (p : ℕ) (r : Report) → firstFrom judge p l ≡ some r → There p l r
   unfolding firstFrom
   there [] p r e = let z : _≡_ {A = ℕ} 0 1 = cc in absurd (omega arith)
   there (b ∷ l) p r e = by-test (eqb b 0xF0) refl e (there l (suc p) r)
@@ -126,7 +120,7 @@ module _ (judge : List ℕ → Verdict) where
   pub record Complete (s : List ℕ) (r : Report) : Type 0 where
     pub content : List ℕ
     pub seven-bits : All (λ b. b < 0x80) content
-    pub bytes : withoutRealTime (take (r .end - r .start) (drop (r .start) s)) ≡ framed content
+    pub bytes : withoutRealTime (between s (r .start) (r .end)) ≡ framed content
     pub judged : r .verdict ≡ judge (framed content)
 
   -- The message behind an F0H at place f of a stream, before the bytes t, if it is answered 0.
@@ -137,11 +131,10 @@ module _ (judge : List ℕ → Verdict) where
       by-test x r e true q =
           let e′ : drop (length (body t)) t ≡ 0xF7 ∷ r = e ∙ ap (λ (y : ℕ). y ∷ r) (eqb-true x 0xF7 q) in
           let size : suc (suc f + length (body t)) - f ≡ suc (length (body t) + 1) = omega arith in
-          let inner : take (length (body t) + 1) t ≡ body t ++ (0xF7 ∷ []) = take-add (length (body t)) 1 t ∙ rw (take-body t, e′) in
           rw (closed-message judge f t r e′) (record {
             content = withoutRealTime (body t);
             seven-bits = content-data t;
-            bytes = rw (size, at, inner) (without-framed (body t));
+            bytes = rw (size, at, body-closed t r e′) (without-framed (body t));
             judged = refl;
           })
       by-test x r e false q =

@@ -11,12 +11,12 @@ use Rattle.answers.specs.Table.{Verdict, done, refused}
 use Rattle.answers.specs.promises.Decides.{Keeps}
 use Rattle.streams.specs.Stream.{packedIn, readInto}
 
-pub reading-keeps : (f e : ℕ) (v : Verdict) (lent : List ℕ)
-    → let x = readInto f e v lent in Keeps (x .result .outcome .answer) (length (packedIn v)) lent (x .lent)
-reading-keeps f e (done o b p) lent = by-test (leb (length p) (length lent)) refl
+pub reading-keeps : (f e : ℕ) (v : Verdict) (n : ℕ) (lent : List ℕ)
+    → let x = readInto f e v n lent in Keeps (x .result .outcome .answer) (length (packedIn v)) lent (x .lent)
+reading-keeps f e (done o b p) n lent = by-test (leb (length p) (length lent)) refl
   where
     by-test : (t : Bool) → leb (length p) (length lent) ≡ t
-        → let x = readInto f e (done o b p) lent in Keeps (x .result .outcome .answer) (length p) lent (x .lent)
-    by-test true q = rw q (record { refused = λ n. absurd (n refl); behind = λ z. drop-append-seam p (drop (length p) lent) })
-    by-test false q = rw q (record { refused = λ n. refl; behind = λ z. absurd (omega arith) })
-reading-keeps f e (refused o) lent = record { refused = λ n. refl; behind = λ z. refl }
+        → let x = readInto f e (done o b p) n lent in Keeps (x .result .outcome .answer) (length p) lent (x .lent)
+    by-test true q = rw q (record { refused = λ k. absurd (k refl); behind = λ z. drop-append-seam p (drop (length p) lent) })
+    by-test false q = rw q (record { refused = λ k. refl; behind = λ z. absurd (omega arith) })
+reading-keeps f e (refused o) n lent = record { refused = λ k. refl; behind = λ z. refl }

@@ -1,7 +1,9 @@
 pub mod Bytes
+pub mod Noise
 pub mod Scan
 pub mod Walk
 pub mod Order
 pub mod Closing
 pub mod Complete
+pub mod Heard
 pub mod Lent

@@ -27,4 +27,4 @@ order-before (q ∷ l) r m p n o = let i = order-before l r m (q .end) n (o .3) 
 pub ahead-before : (judge : List ℕ → Verdict) (xs : List ℕ) → All (λ r. r .start < length xs) (ahead judge 0 outside xs)
 ahead-before judge xs =
     let o = rw (scan-exclusive judge xs 0 outside []) at (scan-order judge (xs ++ 0xF0 ∷ []) 0) in
-    rw (zero-add (length xs)) (rw (zero-add (length xs)) at (order-before (ahead judge 0 outside xs) (report (0 + length xs) _ _) [] 0 _ o .0))
+    rw (zero-add (length xs)) (rw (zero-add (length xs)) at (order-before (ahead judge 0 outside xs) (report (0 + length xs) _ _ _) [] 0 _ o .0))

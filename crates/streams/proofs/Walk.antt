@@ -4,40 +4,43 @@ use mathlib.Core.Path.{_≡_, refl, sym, ap, _∙_}
 use mathlib.Core.Bool.{Bool, true, false}
 use mathlib.Core.List.{List, [], _∷_, _++_, append-nil}
 use mathlib.Core.Option.{none, some}
-use Prim.Native.Nat.{ℕ, zero, suc, _+_, _≤_, _<_}
+use Prim.Native.Nat.{ℕ, zero, suc, _+_, _-_, _≤_, _<_}
 use native.Mathlib.Nat.{add-zero, zero-add}
 use native.Mathlib.Omega.{arith}
 use lib.Dec.{eqb}
-use lib.ListN.{length, drop, length-drop, drop-of-length-le}
+use lib.ListN.{length, take, drop, length-drop, drop-of-length-le}
 use lib.Seq.{append-snoc, drop-drop}
 use borrow.Author.Tests.{eq-eqb, ne-eqb}
 use Rattle.answers.specs.Lists.{All}
 use Rattle.answers.specs.Table.{Verdict, refused, outcome}
-use Rattle.streams.specs.Bytes.{ByteKind, dataByte, exclusive, endOfExclusive, otherStatus, realTime, byteKind, ends, body, withoutRealTime, framed}
+use Rattle.streams.specs.Bytes.{ByteKind, dataByte, exclusive, endOfExclusive, otherStatus, realTime}
+use Rattle.streams.specs.Bytes.{byteKind, ends, body, withoutRealTime, realTimeIn, framed}
 use Rattle.streams.specs.Stream.{Report, report, messageAt, firstFrom, walk, reportsFrom, reports}
 use Rattle.streams.specs.code.Scan.{outside, inside, scan}
 use Rattle.streams.specs.promises.Order.{InOrder, ReportsOf}
-use Rattle.streams.proofs.Bytes.{lies-in, kind-is, Ending, closing, starting, breaking, ending, behind-body, body-within}
+use Rattle.streams.proofs.Bytes.{lies-in, kind-is, Ending, closing, starting, breaking, ending, behind-body, body-within, body-take, body-closed}
+use Rattle.streams.proofs.Noise.{noise-none, noise-other, noise-append}
 use Rattle.streams.proofs.Scan.{further, scan-outside}
 
 module _ (judge : List ℕ → Verdict) where
-  -- The scan from behind the body of t, inside the message from f with the content c before t.
-  abbrev pub pastBody : ℕ → ℕ → List ℕ → List ℕ → List Report
-  pastBody p f c t = scan judge (p + length (body t)) (inside f (c ++ withoutRealTime (body t))) (drop (length (body t)) t)
+  -- The scan from behind the body of t, inside the message from f with the content c and n real-time bytes before t.
+  abbrev pub pastBody : ℕ → ℕ → List ℕ → ℕ → List ℕ → List Report
+  pastBody p f c n t =
+      scan judge (p + length (body t)) (inside f (c ++ withoutRealTime (body t)) (n + realTimeIn (body t))) (drop (length (body t)) t)
 
-  -- Inside a message the scan passes over the body, real time dropped.
-  pub scan-body : (t : List ℕ) (p f : ℕ) (c : List ℕ) → scan judge p (inside f c) t ≡ pastBody p f c t
-  unfolding body withoutRealTime
-  scan-body [] p f c = rw (add-zero p)
-  scan-body (b ∷ t) p f c = by-kind (byteKind b) refl (scan-body t (suc p) f (c ++ (b ∷ []))) (scan-body t (suc p) f c)
+  -- Inside a message the scan passes over the body, real time dropped and counted.
+  pub scan-body : (t : List ℕ) (p f : ℕ) (c : List ℕ) (n : ℕ) → scan judge p (inside f c n) t ≡ pastBody p f c n t
+  unfolding body withoutRealTime realTimeIn
+  scan-body [] p f c n = rw (add-zero p, add-zero n)
+  scan-body (b ∷ t) p f c n = by-kind (byteKind b) refl (scan-body t (suc p) f (c ++ (b ∷ [])) n) (scan-body t (suc p) f c (suc n))
     where
-      by-kind : (k : ByteKind) → byteKind b ≡ k → scan judge (suc p) (inside f (c ++ (b ∷ []))) t ≡ pastBody (suc p) f (c ++ (b ∷ [])) t
-          → scan judge (suc p) (inside f c) t ≡ pastBody (suc p) f c t → scan judge p (inside f c) (b ∷ t) ≡ pastBody p f c (b ∷ t)
+      by-kind : (k : ByteKind) → byteKind b ≡ k → scan judge (suc p) (inside f (c ++ (b ∷ [])) n) t ≡ pastBody (suc p) f (c ++ (b ∷ [])) n t
+          → scan judge (suc p) (inside f c (suc n)) t ≡ pastBody (suc p) f c (suc n) t → scan judge p (inside f c n) (b ∷ t) ≡ pastBody p f c n (b ∷ t)
       by-kind dataByte q i j = rw (q, i, further p (length (body t)), append-snoc c b (withoutRealTime (body t))) (rw q)
-      by-kind exclusive q i j = rw (q, add-zero p, append-nil c) (rw q)
-      by-kind endOfExclusive q i j = rw (q, add-zero p, append-nil c) (rw q)
-      by-kind otherStatus q i j = rw (q, add-zero p, append-nil c) (rw q)
-      by-kind realTime q i j = rw (q, j, further p (length (body t))) (rw q)
+      by-kind exclusive q i j = rw (q, add-zero p, append-nil c, add-zero n) (rw q)
+      by-kind endOfExclusive q i j = rw (q, add-zero p, append-nil c, add-zero n) (rw q)
+      by-kind otherStatus q i j = rw (q, add-zero p, append-nil c, add-zero n) (rw q)
+      by-kind realTime q i j = rw (q, j, further p (length (body t))) (rw (q, further n (realTimeIn (body t))))
 
   -- An F0H at place f, before the bytes t.
   module _ (f : ℕ) (t : List ℕ) where
@@ -45,41 +48,59 @@ module _ (judge : List ℕ → Verdict) where
     abbrev pub stop : ℕ
     stop = suc f + length (body t)
 
+    -- What was heard up to there: F0H is not real time. And with F7H behind, which is none either.
+    heard : realTimeIn (take (stop - f) (0xF0 ∷ t)) ≡ realTimeIn (body t)
+    heard =
+        let size : stop - f ≡ suc (length (body t)) = omega arith in
+        rw size (noise-other 0xF0 (take (length (body t)) t) (omega arith) ∙ ap realTimeIn (body-take t))
+
+    heard-closed : (r : List ℕ) → drop (length (body t)) t ≡ 0xF7 ∷ r → realTimeIn (take (suc stop - f) (0xF0 ∷ t)) ≡ realTimeIn (body t)
+    heard-closed r e =
+        let size : suc stop - f ≡ suc (length (body t) + 1) = omega arith in
+        let last = noise-other 0xF7 [] (omega arith) ∙ noise-none in
+        rw size (noise-other 0xF0 (take (length (body t) + 1) t) (omega arith)
+        ∙ (ap realTimeIn (body-closed t r e) ∙ (noise-append (body t) (0xF7 ∷ []) ∙ (rw last (add-zero (realTimeIn (body t)))))))
+
     -- With nothing behind its body the message is cut.
-    pub cut-message : drop (length (body t)) t ≡ [] → messageAt judge f t ≡ report f stop (refused (outcome 2 0))
+    pub cut-message : drop (length (body t)) t ≡ [] → messageAt judge f t ≡ report f stop (refused (outcome 2 0)) (realTimeIn (body t))
     unfolding messageAt
-    cut-message e = rw e
+    cut-message e = rw (e, ← heard)
 
     -- With F7H behind its body it is complete, and its content is judged.
     pub closed-message : (r : List ℕ) → drop (length (body t)) t ≡ 0xF7 ∷ r
-        → messageAt judge f t ≡ report f (suc stop) (judge (framed (withoutRealTime (body t))))
+        → messageAt judge f t ≡ report f (suc stop) (judge (framed (withoutRealTime (body t)))) (realTimeIn (body t))
     unfolding messageAt
-    closed-message r e = rw e
+    closed-message r e = rw (e, ← (heard-closed r e))
 
     -- With another byte behind its body it is interrupted.
     pub interrupted-message : (x : ℕ) (r : List ℕ) → drop (length (body t)) t ≡ x ∷ r → (x ≡ 0xF7 → ⊥)
-        → messageAt judge f t ≡ report f stop (refused (outcome 3 0))
+        → messageAt judge f t ≡ report f stop (refused (outcome 3 0)) (realTimeIn (body t))
     unfolding messageAt
-    interrupted-message x r e n = rw (e, ne-eqb x 0xF7 n)
+    interrupted-message x r e n = rw (e, ne-eqb x 0xF7 n, ← heard)
+
+    -- From just behind its F0H the scan passes over the body.
+    scan-inside : scan judge (suc f) (inside f [] 0) t
+        ≡ scan judge stop (inside f (withoutRealTime (body t)) (realTimeIn (body t))) (drop (length (body t)) t)
+    scan-inside = scan-body t (suc f) f [] 0 ∙ rw (zero-add (realTimeIn (body t)))
 
     -- From just behind the F0H of a message that is cut, the scan gives that message alone.
-    pub scan-cut : drop (length (body t)) t ≡ [] → scan judge (suc f) (inside f []) t ≡ messageAt judge f t ∷ []
-    scan-cut e = rw (cut-message e, scan-body t (suc f) f [], e)
+    pub scan-cut : drop (length (body t)) t ≡ [] → scan judge (suc f) (inside f [] 0) t ≡ messageAt judge f t ∷ []
+    scan-cut e = rw (cut-message e, scan-inside, e)
 
     -- Of one that is complete, that message and the scan from behind its F7H.
     pub scan-closed : (r : List ℕ) → drop (length (body t)) t ≡ 0xF7 ∷ r
-        → scan judge (suc f) (inside f []) t ≡ messageAt judge f t ∷ scan judge (suc stop) outside r
-    scan-closed r e = rw (closed-message r e, scan-body t (suc f) f [], e, kind-is endOfExclusive 0xF7 refl)
+        → scan judge (suc f) (inside f [] 0) t ≡ messageAt judge f t ∷ scan judge (suc stop) outside r
+    scan-closed r e = rw (closed-message r e, scan-inside, e, kind-is endOfExclusive 0xF7 refl)
 
     -- Of one that F0H interrupts, that message and the scan inside the next.
     pub scan-again : (r : List ℕ) → drop (length (body t)) t ≡ 0xF0 ∷ r
-        → scan judge (suc f) (inside f []) t ≡ messageAt judge f t ∷ scan judge (suc stop) (inside stop []) r
-    scan-again r e = rw (interrupted-message 0xF0 r e (λ z. omega arith), scan-body t (suc f) f [], e, kind-is exclusive 0xF0 refl)
+        → scan judge (suc f) (inside f [] 0) t ≡ messageAt judge f t ∷ scan judge (suc stop) (inside stop [] 0) r
+    scan-again r e = rw (interrupted-message 0xF0 r e (λ z. omega arith), scan-inside, e, kind-is exclusive 0xF0 refl)
 
     -- Of one that another status byte interrupts, that message and the scan from behind that byte.
     pub scan-broken : (x : ℕ) (r : List ℕ) → drop (length (body t)) t ≡ x ∷ r → (x ≡ 0xF0 → ⊥) → (x ≡ 0xF7 → ⊥)
-        → scan judge (suc f) (inside f []) t ≡ messageAt judge f t ∷ scan judge (suc stop) outside r
-    scan-broken x r e n m = rw (interrupted-message x r e m, scan-body t (suc f) f [], e, other (ending x (behind-body t x r e)))
+        → scan judge (suc f) (inside f [] 0) t ≡ messageAt judge f t ∷ scan judge (suc stop) outside r
+    scan-broken x r e n m = rw (interrupted-message x r e m, scan-inside, e, other (ending x (behind-body t x r e)))
       where
         other : Ending x → byteKind x ≡ otherStatus
         other (closing q) = absurd (m q)
@@ -92,7 +113,7 @@ module _ (judge : List ℕ → Verdict) where
       pub within : taken ≤ length t
       pub starts : messageAt judge f t .start ≡ f
       pub ends : messageAt judge f t .end ≡ suc f + taken
-      pub rest : scan judge (suc f) (inside f []) t ≡ messageAt judge f t ∷ scan judge (suc f + taken) outside (drop taken t)
+      pub rest : scan judge (suc f) (inside f [] 0) t ≡ messageAt judge f t ∷ scan judge (suc f + taken) outside (drop taken t)
 
     -- Every message is one report, and the scan goes on outside from its end.
     pub behind : Behind
@@ -109,7 +130,7 @@ module _ (judge : List ℕ → Verdict) where
         go (x ∷ r) e = by-end (ending x (behind-body t x r e))
           where
             -- the byte that interrupts is not consumed
-            interrupted : (x ≡ 0xF7 → ⊥) → scan judge (suc f) (inside f []) t ≡ messageAt judge f t ∷ scan judge stop outside (x ∷ r) → Behind
+            interrupted : (x ≡ 0xF7 → ⊥) → scan judge (suc f) (inside f [] 0) t ≡ messageAt judge f t ∷ scan judge stop outside (x ∷ r) → Behind
             interrupted n s = record {
               taken = length (body t);
               within = body-within t;

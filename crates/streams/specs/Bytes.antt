@@ -1,7 +1,7 @@
 -- The kinds of byte of MIDI 1.0, and the bytes of a system exclusive message.
 use mathlib.Core.Bool.{Bool, true, false, cond}
 use mathlib.Core.List.{List, [], _∷_, _++_}
-use Prim.Native.Nat.{ℕ}
+use Prim.Native.Nat.{ℕ, suc}
 use lib.Dec.{eqb, ltb}
 
 -- 00H..7FH; F0H; F7H; the other bytes of 80H..F7H; F8H..FFH.
@@ -39,6 +39,11 @@ body (b ∷ s) = cond (ends (byteKind b)) [] (b ∷ body s)
 unfoldable pub withoutRealTime : List ℕ → List ℕ
 withoutRealTime [] = []
 withoutRealTime (b ∷ s) = cond (isRealTime (byteKind b)) (withoutRealTime s) (b ∷ withoutRealTime s)
+
+-- How many bytes F8H..FFH stand in a list.
+unfoldable pub realTimeIn : List ℕ → ℕ
+realTimeIn [] = 0
+realTimeIn (b ∷ s) = cond (isRealTime (byteKind b)) (suc (realTimeIn s)) (realTimeIn s)
 
 -- A complete message: F0H, what stands between, F7H.
 abbrev pub framed : List ℕ → List ℕ

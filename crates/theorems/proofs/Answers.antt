@@ -111,31 +111,36 @@ nothing-room : (l : List ℕ) (n : ℕ) (lent : List ℕ) (v : Verdict) → l �
 nothing-room l n lent v e = rw e
 
 -- There, start and end are the input's length; and a record is read where the walk finds its message.
-not-found : (s : List ℕ) (place : ℕ) → found s place ≡ [] → (walked s place .start ≡ length s) × (walked s place .end ≡ length s)
+not-found : (s : List ℕ) (place : ℕ) → found s place ≡ [] → let r = walked s place in (r .start ≡ length s) × (r .end ≡ length s) × (r .noise ≡ 0)
 unfolding walk
 not-found s place n = go (start (drop place s) place)
   where
-    go : Start (drop place s) place → (walked s place .start ≡ length s) × (walked s place .end ≡ length s)
-    go (none-there e₁ e₂) = rw e₂ (refl, refl)
+    go : Start (drop place s) place → let r = walked s place in (r .start ≡ length s) × (r .end ≡ length s) × (r .noise ≡ 0)
+    go (none-there e₁ e₂) = rw e₂ (refl, refl, refl)
     go (starts f t e₁ e₂) = let z : _≡_ {A = List ℕ} [] (0xF0 ∷ t) = sym n ∙ e₁ in let x : _≡_ {A = ℕ} 0 1 = cc in absurd (omega arith)
 
 read-there : (s : List ℕ) (place : ℕ) (lent : List ℕ)
-    → let r = reads s place lent .result .report in (r .start ≡ walked s place .start) × (r .end ≡ walked s place .end)
+    → let r = reads s place lent .result .report in
+    let w = walked s place in
+    (r .start ≡ w .start) × (r .end ≡ w .end) × (r .noise ≡ w .noise)
 unfolding read
 read-there s place lent = by-walk (walk judge s place)
   where
-    into : (f e : ℕ) (v : Verdict) → let r = readInto f e v lent .result in (r .start ≡ f) × (r .end ≡ e)
-    into f e (refused o) = (refl, refl)
-    into f e (done o b p) = by-room (leb (length p) (length lent)) refl
+    into : (f e : ℕ) (v : Verdict) (n : ℕ) → let r = readInto f e v n lent .result in (r .start ≡ f) × (r .end ≡ e) × (r .noise ≡ n)
+    into f e (refused o) n = (refl, refl, refl)
+    into f e (done o b p) n = by-room (leb (length p) (length lent)) refl
       where
-        by-room : (t : Bool) → leb (length p) (length lent) ≡ t → let r = readInto f e (done o b p) lent .result in (r .start ≡ f) × (r .end ≡ e)
-        by-room true q = rw q (refl, refl)
-        by-room false q = rw q (refl, refl)
+        by-room : (t : Bool) → leb (length p) (length lent) ≡ t
+            → let r = readInto f e (done o b p) n lent .result in (r .start ≡ f) × (r .end ≡ e) × (r .noise ≡ n)
+        by-room true q = rw q (refl, refl, refl)
+        by-room false q = rw q (refl, refl, refl)
 
     by-walk : (o : Option Report)
-        → let r = readReport judge (length s) o lent .result in (r .start ≡ reportOr (length s) o .start) × (r .end ≡ reportOr (length s) o .end)
-    by-walk none = (refl, refl)
-    by-walk (some r) = into (r .start) (r .end) (r .verdict)
+        → let r = readReport judge (length s) o lent .result in
+        let w = reportOr (length s) o in
+        (r .start ≡ w .start) × (r .end ≡ w .end) × (r .noise ≡ w .noise)
+    by-walk none = (refl, refl, refl)
+    by-walk (some r) = into (r .start) (r .end) (r .verdict) (r .noise)
 
 walk-outcome : (s : List ℕ) (place : ℕ) → walked s place .outcome ≡ outcomeOf (first (walkRows (found s place)) (recordIn (found s place)))
 walk-outcome s place = go (finds s place)
@@ -145,24 +150,24 @@ walk-outcome s place = go (finds s place)
     go (here r e₁ e₂) = rw e₁ (ap outcomeOf e₂)
 
 -- What the rows come to, read into a lent buffer: they refuse, or the room does, or it is done.
-reading-rows : (rows : List Row) (f e o : ℕ) (b p lent : List ℕ)
-    → readInto f e (first rows (done o b p)) lent .result .outcome ≡ outcomeOf (first (thenRoom rows (length p) lent) (done o b p))
-reading-rows [] f e o b p lent = by-test (leb (length p) (length lent)) refl
+reading-rows : (rows : List Row) (f e n o : ℕ) (b p lent : List ℕ)
+    → readInto f e (first rows (done o b p)) n lent .result .outcome ≡ outcomeOf (first (thenRoom rows (length p) lent) (done o b p))
+reading-rows [] f e n o b p lent = by-test (leb (length p) (length lent)) refl
   where
     by-test : (t : Bool) → leb (length p) (length lent) ≡ t
-        → readInto f e (done o b p) lent .result .outcome ≡ outcomeOf (first (row 13 (ltb (length lent) (length p)) ∷ []) (done o b p))
+        → readInto f e (done o b p) n lent .result .outcome ≡ outcomeOf (first (row 13 (ltb (length lent) (length p)) ∷ []) (done o b p))
     by-test true q = rw (q, le-ltb (length lent) (length p) (leb-true (length p) (length lent) q))
     by-test false q = rw (q, lt-ltb (length lent) (length p) (leb-false (length p) (length lent) q))
-reading-rows (r ∷ rows) f e o b p lent = go (heard r) (reading-rows rows f e o b p lent)
+reading-rows (r ∷ rows) f e n o b p lent = go (heard r) (reading-rows rows f e n o b p lent)
   where
-    go : Heard r → readInto f e (first rows (done o b p)) lent .result .outcome ≡ outcomeOf (first (thenRoom rows (length p) lent) (done o b p))
-        → readInto f e (first (r ∷ rows) (done o b p)) lent .result .outcome ≡ outcomeOf (first (thenRoom (r ∷ rows) (length p) lent) (done o b p))
+    go : Heard r → readInto f e (first rows (done o b p)) n lent .result .outcome ≡ outcomeOf (first (thenRoom rows (length p) lent) (done o b p))
+        → readInto f e (first (r ∷ rows) (done o b p)) n lent .result .outcome ≡ outcomeOf (first (thenRoom (r ∷ rows) (length p) lent) (done o b p))
     go (nothing q) i = rw q i
     go (something x q) i = rw q
 
-reading-by : (rows : List Row) (v : Verdict) → IsDone v → (f e : ℕ) (lent : List ℕ)
-    → readInto f e (first rows v) lent .result .outcome ≡ outcomeOf (first (thenRoom rows (length (packedIn v)) lent) v)
-reading-by rows v (made o b p q) f e lent = rw q (reading-rows rows f e o b p lent)
+reading-by : (rows : List Row) (v : Verdict) → IsDone v → (f e n : ℕ) (lent : List ℕ)
+    → readInto f e (first rows v) n lent .result .outcome ≡ outcomeOf (first (thenRoom rows (length (packedIn v)) lent) v)
+reading-by rows v (made o b p q) f e n lent = rw q (reading-rows rows f e n o b p lent)
 
 -- The packed bytes of what the rows come to are those of the record, or none.
 packed-by : (rows : List Row) (v : Verdict) → (packedIn (first rows v) ≡ packedIn v) ⊎ (packedIn (first rows v) ≡ [])
@@ -196,8 +201,8 @@ module _ (s : List ℕ) (place : ℕ) (lent : List ℕ) where
       ap (λ (o : Option Report). readReport judge (length s) o lent .result .outcome) e₂ ∙ sym (ap outcomeOf (nothing-room l size lent (recordIn l) e₁))
   read-told (here r e₁ e₂) =
       ap (λ (o : Option Report). readReport judge (length s) o lent .result .outcome) e₁
-      ∙ ap (λ (v : Verdict). readInto (r .start) (r .end) v lent .result .outcome) e₂
-      ∙ reading-by (walkRows l) (recordIn l) (record-made l) (r .start) (r .end) lent
+      ∙ ap (λ (v : Verdict). readInto (r .start) (r .end) v (r .noise) lent .result .outcome) e₂
+      ∙ reading-by (walkRows l) (recordIn l) (record-made l) (r .start) (r .end) (r .noise) lent
 
   abbrev Kept : Effect Reading → Type 0
   Kept x = Keeps (x .result .outcome .answer) size lent (x .lent)
@@ -208,13 +213,13 @@ module _ (s : List ℕ) (place : ℕ) (lent : List ℕ) where
       subst (λ (o : Option Report). Kept (readReport judge (length s) o lent)) (sym e₂) (record { refused = λ x. refl; behind = λ z. refl })
   read-kept (here r e₁ e₂) =
       let v = first (walkRows l) (recordIn l) in
-      let e = readInto (r .start) (r .end) v lent in
+      let e = readInto (r .start) (r .end) v (r .noise) lent in
       let some-packed : (length (packedIn v) ≡ size) ⊎ (length (packedIn v) ≡ 0) =
       ⊎-elim (λ (q : packedIn v ≡ packedIn (recordIn l)). inl (ap length q)) (λ (q : packedIn v ≡ []). inr (ap length q))
       (packed-by (walkRows l) (recordIn l)) in
-      let kept = keeps-by (e .result .outcome .answer) (length (packedIn v)) size lent (e .lent) (reading-keeps (r .start) (r .end) v lent) some-packed in
+      let kept = keeps-by (e .result .outcome .answer) (length (packedIn v)) size lent (e .lent) (reading-keeps (r .start) (r .end) v (r .noise) lent) some-packed in
       subst (λ (o : Option Report). Kept (readReport judge (length s) o lent)) (sym e₁)
-      (subst (λ (w : Verdict). Kept (readInto (r .start) (r .end) w lent)) (sym e₂) kept)
+      (subst (λ (w : Verdict). Kept (readInto (r .start) (r .end) w (r .noise) lent)) (sym e₂) kept)
 
   read-answered : Answered (thenRoom (walkRows l) size lent) (opcodeIn l) size lent outcome-read (reads s place lent .lent)
   read-answered = record {
@@ -228,13 +233,13 @@ module _ (s : List ℕ) (place : ℕ) (lent : List ℕ) where
 abbrev NoBytes : Effect Reading → Type 0
 NoBytes e = (e .result .outcome .answer ≡ 0 → ⊥) → four (e .result .bytes) ≡ four []
 
-read-bare : (f e : ℕ) (v : Verdict) (lent : List ℕ) → NoBytes (readInto f e v lent)
-read-bare f e (done o b p) lent = by-room (leb (length p) (length lent)) refl
+read-bare : (f e : ℕ) (v : Verdict) (n : ℕ) (lent : List ℕ) → NoBytes (readInto f e v n lent)
+read-bare f e (done o b p) n lent = by-room (leb (length p) (length lent)) refl
   where
-    by-room : (t : Bool) → leb (length p) (length lent) ≡ t → NoBytes (readInto f e (done o b p) lent)
-    by-room true q = rw q (λ n. absurd (n refl))
-    by-room false q = rw q (λ n. refl)
-read-bare f e (refused r) lent = λ n. refl
+    by-room : (t : Bool) → leb (length p) (length lent) ≡ t → NoBytes (readInto f e (done o b p) n lent)
+    by-room true q = rw q (λ x. absurd (x refl))
+    by-room false q = rw q (λ x. refl)
+read-bare f e (refused r) n lent = λ x. refl
 
 read-no-bytes : (s : List ℕ) (place : ℕ) (lent : List ℕ) → NoBytes (read judge s place lent)
 unfolding read
@@ -242,7 +247,7 @@ read-no-bytes s place lent = by-walk (walk judge s place)
   where
     by-walk : (o : Option Report) → NoBytes (readReport judge (length s) o lent)
     by-walk none = λ n. refl
-    by-walk (some r) = read-bare (r .start) (r .end) (r .verdict) lent
+    by-walk (some r) = read-bare (r .start) (r .end) (r .verdict) (r .noise) lent
 
 -- Lent bytes of which no more may change than there are.
 all-behind : (new old : List ℕ) → length new ≡ length old → drop (length old) new ≡ drop (length old) old

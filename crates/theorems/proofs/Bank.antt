@@ -47,7 +47,7 @@ use Rattle.theorems.proofs.Containment.{Laid, parts, whole-parts}
 sound-scanned : (k : Kind) (b p : List ℕ) → Sound k b p → (place : ℕ) (behind : List ℕ) → scan judge place outside (message k b p ++ behind)
     ≡ reportFor k b p place ∷ scan judge (place + length (message k b p)) outside behind
 sound-scanned k b p s place behind =
-    sound-holds k b p (λ m v. scan judge place outside (m ++ behind) ≡ report place (place + length m) v ∷ scan judge (place + length m) outside behind)
+    sound-holds k b p (λ m v. scan judge place outside (m ++ behind) ≡ report place (place + length m) v 0 ∷ scan judge (place + length m) outside behind)
     (λ c a. scan-framed judge place c behind (data-bytes c a)) s
 
 -- Where no patch is bad, the first passes its tests, and none of the others is bad.
@@ -95,7 +95,7 @@ placed place (suc n) k m ps h = (omega arith, placed place n (k + 1) m ps (omega
 from-start : (before t : List ℕ) → scan judge 0 outside (before ++ 0xF0 ∷ t) ≡ ahead judge 0 outside before ++ scan judge (length before) outside (0xF0 ∷ t)
 from-start before t =
     scan-exclusive judge before 0 outside t
-    ∙ ap (λ (m : ℕ). ahead judge 0 outside before ++ scan judge (suc m) (inside m []) t) (zero-add (length before))
+    ∙ ap (λ (m : ℕ). ahead judge 0 outside before ++ scan judge (suc m) (inside m [] 0) t) (zero-add (length before))
     ∙ ap (λ (l : List Report). ahead judge 0 outside before ++ l) (sym (scan-outside judge (length before) 0xF0 t))
 
 start-bank : (n : ℕ) (ps before behind : List ℕ) → scan judge 0 outside (before ++ (bankFrom (suc n) 0 ps ++ behind))

@@ -30,7 +30,7 @@ pub record Laid (before d behind : List ℕ) (m : List Report) : Type 0 where
 
 -- The bytes w behind an F0H, where the scan gives the reports m of them and is then outside.
 laid-by : (before w behind : List ℕ) (m : List Report)
-    → scan judge (suc (length before)) (inside (length before) []) (w ++ behind) ≡ m ++ scan judge (suc (length before) + length w) outside behind
+    → scan judge (suc (length before)) (inside (length before) [] 0) (w ++ behind) ≡ m ++ scan judge (suc (length before) + length w) outside behind
     → All (λ r. (length before ≤ r .start) × (suc (r .start) < suc (length before) + length w)) m → Laid before (0xF0 ∷ w) behind m
 laid-by before w behind m e a =
     let last : suc (length before) + length w ≡ length before + suc (length w) = omega arith in
@@ -49,24 +49,24 @@ laid-by before w behind m e a =
 
 -- What such bytes complete.
 abbrev pub found : List ℕ → List ℕ → List Report
-found before w = emitted judge (suc (length before)) (inside (length before) []) w
+found before w = emitted judge (suc (length before)) (inside (length before) [] 0) w
 
-pub lay : (before w behind : List ℕ) → after (suc (length before)) (inside (length before) []) w ≡ outside → Laid before (0xF0 ∷ w) behind (found before w)
+pub lay : (before w behind : List ℕ) → after (suc (length before)) (inside (length before) [] 0) w ≡ outside → Laid before (0xF0 ∷ w) behind (found before w)
 lay before w behind e =
     let f = length before in
-    laid-by before w behind (found before w) (rw (scan-split judge w (suc f) (inside f []) behind, e))
-    (emitted-within judge w f (suc f) (inside f []) (omega arith))
+    laid-by before w behind (found before w) (rw (scan-split judge w (suc f) (inside f [] 0) behind, e))
+    (emitted-within judge w f (suc f) (inside f [] 0) (omega arith))
 
 -- Data bytes between F0H and F7H give one report.
 pub one-message : (before c behind : List ℕ) → All DataByte c
-    → Laid before (framed c) behind (report (length before) (length before + length (framed c)) (judge (framed c)) ∷ [])
+    → Laid before (framed c) behind (report (length before) (length before + length (framed c)) (judge (framed c)) 0 ∷ [])
 one-message before c behind a =
     let f = length before in
     let size = length-append c (0xF7 ∷ []) in
     let end : suc (suc f + length c) ≡ f + length (framed c) = omega arith in
     let last : suc f + length (c ++ (0xF7 ∷ [])) ≡ f + length (framed c) = omega arith in
-    laid-by before (c ++ (0xF7 ∷ [])) behind (report f (f + length (framed c)) (judge (framed c)) ∷ [])
-    (rw (append-assoc c (0xF7 ∷ []) behind, scan-close judge c a (suc f) f [] behind, end, last)) ((omega arith, omega arith), tt)
+    laid-by before (c ++ (0xF7 ∷ [])) behind (report f (f + length (framed c)) (judge (framed c)) 0 ∷ [])
+    (rw (append-assoc c (0xF7 ∷ []) behind, scan-close judge c a (suc f) f 0 [] behind, end, last)) ((omega arith, omega arith), tt)
 
 module _ (before d behind : List ℕ) (m : List Report) (laid : Laid before d behind m) where
   -- The three parts of the stream's reports.
@@ -99,10 +99,10 @@ module _ (before d behind : List ℕ) (m : List Report) (laid : Laid before d be
       ∙ ap (map (readingOf lent)) after-back
 
 -- The dump d with one report, and in its place e whose reports are all refused.
-pub contained : (before d e behind : List ℕ) (v : Verdict) (m : List Report) → Laid before d behind (report (length before) (length before + length d) v ∷ [])
+pub contained : (before d e behind : List ℕ) (v : Verdict) (m : List Report) → Laid before d behind (report (length before) (length before + length d) v 0 ∷ [])
     → Laid before e behind m → All (λ r. Refused (r .verdict)) m → Contained before d e behind v
 contained before d e behind v m ld le a =
-    let one = report (length before) (length before + length d) v ∷ [] in
+    let one = report (length before) (length before + length d) v 0 ∷ [] in
     let pd = parts before d behind one ld in
     let pe = parts before e behind m le in
     let same = pe .before ∙ sym (pd .before) in

@@ -382,14 +382,14 @@ module _ (k : Dump) (filed : Filed (ofDump k)) (patch : k .packed ≡ aPatch) (n
   -- Between any bytes.
   module _ (before behind : List ℕ) where
     -- The undamaged dump has one report.
-    intact : Laid before whole behind (report (length before) (length before + length whole) (dumpRecord k n p) ∷ [])
+    intact : Laid before whole behind (report (length before) (length before + length whole) (dumpRecord k n p) 0 ∷ [])
     unfolding dump
     intact = rw accepted at (one-message before (head ++ sent) behind (all-append DataByte head sent head-data sent-data))
 
     demand : (x : Damage) → Allowed x whole → Contained before whole (damaged x whole) behind (dumpRecord k n p)
     demand x h =
         let s = spoilt x h in
-        let c = s .closes (suc (length before)) (length before) in
+        let c = s .closes (suc (length before)) (length before) 0 in
         rw (s .bytes)
         (contained before whole (0xF0 ∷ s .w) behind (dumpRecord k n p) (found before (s .w)) intact (lay before (s .w) behind (c .1)) (c .0))
 
@@ -399,7 +399,7 @@ module _ (k : Dump) (filed : Filed (ofDump k)) (patch : k .packed ≡ aPatch) (n
     unfolding dump
     shows i a b c y z o d told =
         let w = other i (a ∷ b ∷ []) c (y ∷ z ∷ []) in
-        let one = report (length before) (length before + length (framed w)) (judge (framed w)) ∷ [] in
+        let one = report (length before) (length before + length (framed w)) (judge (framed w)) 0 ∷ [] in
         let size : length (framed w) ≡ length (framed (head ++ sent)) = omega (
           arith,
           sent-length,

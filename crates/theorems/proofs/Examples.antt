@@ -45,7 +45,7 @@ damage-examples = (
 )
 
 -- What is shown of the last: the checksum is 1.
-pub slip-example : reportsOfDump [] (damaged (exchange 272) sent) sent ≡ report 0 275 (refused (outcome 10 0)) ∷ []
+pub slip-example : reportsOfDump [] (damaged (exchange 272) sent) sent ≡ report 0 275 (refused (outcome 10 0)) 0 ∷ []
 unfolding dump nibbles sum total
 slip-example =
     slipped-neighbours singlePatch filed refl (0 ∷ []) P refl taken [] sent .exchanged 272 (omega arith) (omega arith) (λ e. omega arith)

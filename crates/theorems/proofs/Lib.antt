@@ -4,6 +4,7 @@ pub mod Containment
 pub mod Damage
 pub mod Answers
 pub mod Found
+pub mod Noise
 pub mod Withdrawn
 pub mod Examples
 pub mod Writers

@@ -1,4 +1,4 @@
--- Reading a record from the start of a report gives that report's places, answer and bytes, since the walk from there finds that report.
+-- Reading a record from the start of a report gives that report's places, answer, noise and bytes, since the walk from there finds that report.
 -- So readings are the same where reports are, and the places of both are counted back alike.
 use mathlib.Core.Path.{_≡_, refl}
 use mathlib.Core.Bool.{Bool, true, false, cond}
@@ -22,39 +22,39 @@ use Rattle.theorems.proofs.Parts.{all-keep}
 
 -- What reading gives where the walk finds the report r.
 abbrev pub readingOf : List ℕ → Report → Effect Reading
-readingOf lent r = readInto (r .start) (r .end) (r .verdict) lent
+readingOf lent r = readInto (r .start) (r .end) (r .verdict) (r .noise) lent
 
-reading-back : (n f e : ℕ) (v : Verdict) (lent : List ℕ) → readingBack n (readInto f e v lent) ≡ readInto (n - f) (n - e) v lent
-reading-back n f e (done o b p) lent = by-test (leb (length p) (length lent))
+reading-back : (n f e : ℕ) (v : Verdict) (noise : ℕ) (lent : List ℕ) → readingBack n (readInto f e v noise lent) ≡ readInto (n - f) (n - e) v noise lent
+reading-back n f e (done o b p) noise lent = by-test (leb (length p) (length lent))
   where
     by-test : (t : Bool) → readingBack n (cond t
-        (record { result = reading f e (outcome 0 o) b; lent = p ++ drop (length p) lent })
-        (record { result = reading f e (outcome 13 0) []; lent = lent }))
+        (record { result = reading f e (outcome 0 o) noise b; lent = p ++ drop (length p) lent })
+        (record { result = reading f e (outcome 13 0) noise []; lent = lent }))
         ≡ cond t
-        (record { result = reading (n - f) (n - e) (outcome 0 o) b; lent = p ++ drop (length p) lent })
-        (record { result = reading (n - f) (n - e) (outcome 13 0) []; lent = lent })
+        (record { result = reading (n - f) (n - e) (outcome 0 o) noise b; lent = p ++ drop (length p) lent })
+        (record { result = reading (n - f) (n - e) (outcome 13 0) noise []; lent = lent })
     by-test true = refl
     by-test false = refl
-reading-back n f e (refused r) lent = refl
+reading-back n f e (refused r) noise lent = refl
 
 -- Readings counted back are the readings of reports counted back.
 pub readings-back : (n : ℕ) (lent : List ℕ) (l : List Report) → map (readingBack n) (map (readingOf lent) l) ≡ map (readingOf lent) (map (countedBack n) l)
 readings-back n lent [] = refl
-readings-back n lent (r ∷ l) = rw (reading-back n (r .start) (r .end) (r .verdict) lent, readings-back n lent l)
+readings-back n lent (r ∷ l) = rw (reading-back n (r .start) (r .end) (r .verdict) (r .noise) lent, readings-back n lent l)
 
 -- Neither 0 nor 13.
 abbrev pub Refused : Verdict → Type 0
 Refused v = (answerOf v ≡ 0 → ⊥) × (answerOf v ≡ 13 → ⊥)
 
-reading-refused : (lent : List ℕ) (f e : ℕ) (v : Verdict) → Refused v → Spoilt lent (readInto f e v lent)
-reading-refused lent f e (done o b p) h = absurd (h .0 refl)
-reading-refused lent f e (refused r) h = (h .0, h .1, refl)
+reading-refused : (lent : List ℕ) (f e : ℕ) (v : Verdict) (n : ℕ) → Refused v → Spoilt lent (readInto f e v n lent)
+reading-refused lent f e (done o b p) n h = absurd (h .0 refl)
+reading-refused lent f e (refused r) n h = (h .0, h .1, refl)
 
 -- Reading a refused message gives its answer and leaves the buffer.
 pub readings-refused : (lent : List ℕ) (l : List Report) → All (λ r. Refused (r .verdict)) l
     → All (λ r. Spoilt lent r) (map (readingOf lent) l)
 readings-refused lent [] a = tt
-readings-refused lent (r ∷ l) a = (reading-refused lent (r .start) (r .end) (r .verdict) (a .0), readings-refused lent l (a .1))
+readings-refused lent (r ∷ l) a = (reading-refused lent (r .start) (r .end) (r .verdict) (r .noise) (a .0), readings-refused lent l (a .1))
 
 reread-all : (s lent : List ℕ) (l : List Report) → All (λ r. walk judge s (r .start) ≡ some r) l → readings s lent l ≡ map (readingOf lent) l
 unfolding read

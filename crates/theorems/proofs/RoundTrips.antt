@@ -38,9 +38,9 @@ use Rattle.theorems.proofs.Bank.{bank-read-back}
 -- Data bytes between F0H and F7H are one report of a stream.
 framed-reported : (before c behind : List ℕ) → All (λ b. b < 0x80) c → reports judge (stream before (framed c) behind)
     ≡ reportsBefore before (framed c) behind
-    ++ report (length before) (length before + length (framed c)) (judge (framed c)) ∷ reportsAfter before (framed c) behind
+    ++ report (length before) (length before + length (framed c)) (judge (framed c)) 0 ∷ reportsAfter before (framed c) behind
 framed-reported before c behind a =
-    let one = report (length before) (length before + length (framed c)) (judge (framed c)) ∷ [] in
+    let one = report (length before) (length before + length (framed c)) (judge (framed c)) 0 ∷ [] in
     let laid = one-message before c behind (data-bytes c a) in
     whole-parts before (framed c) behind one laid ∙ rw (parts before (framed c) behind one laid .within)
 
@@ -53,11 +53,11 @@ written-read-back k b p out ours bytes e before behind =
     let its-message : sent k b p out ≡ m =
     ap (λ (x : Effect Outcome). take (x .result .detail) (x .lent)) (takes k b p out (t .0) (t .1)) ∙ take-append-seam m (drop (length m) out) in
     let found =
-    sound-holds k b p (λ m v. walk judge (stream before m behind) (length before) ≡ some (report (length before) (length before + length m) v))
+    sound-holds k b p (λ m v. walk judge (stream before m behind) (length before) ≡ some (report (length before) (length before + length m) v 0))
     (λ c a. walk-framed judge before c behind (data-bytes c a)) s in
     let reported =
     sound-holds k b p (λ m v. reports judge (stream before m behind)
-    ≡ reportsBefore before m behind ++ report (length before) (length before + length m) v ∷ reportsAfter before m behind)
+    ≡ reportsBefore before m behind ++ report (length before) (length before + length m) v 0 ∷ reportsAfter before m behind)
     (λ c a. framed-reported before c behind a) s in
     record {
       its-message = its-message;
@@ -100,19 +100,19 @@ pub read-written-again : ReadWrittenAgain
 unfolding read
 read-written-again s place lent e = by-walk (walk judge s place) refl e
   where
-    by-verdict : (f l : ℕ) (v : Verdict) → (answerOf v ≡ 0 → Again (messageIn s f l) v) → readInto f l v lent .result .outcome .answer ≡ 0
-        → ReadAgain s lent (readInto f l v lent)
-    by-verdict f l (done op bytes packed) a z = by-room (leb (length packed) (length lent)) refl
+    by-verdict : (f l : ℕ) (v : Verdict) (n : ℕ) → (answerOf v ≡ 0 → Again (messageIn s f l) v) → readInto f l v n lent .result .outcome .answer ≡ 0
+        → ReadAgain s lent (readInto f l v n lent)
+    by-verdict f l (done op bytes packed) n a z = by-room (leb (length packed) (length lent)) refl
       where
-        by-room : (t : Bool) → leb (length packed) (length lent) ≡ t → ReadAgain s lent (readInto f l (done op bytes packed) lent)
+        by-room : (t : Bool) → leb (length packed) (length lent) ≡ t → ReadAgain s lent (readInto f l (done op bytes packed) n lent)
         by-room true q = rw q (record { packed = packed; into = refl; again = a refl })
         by-room false q = absurd (omega (arith, rw q at z))
-    by-verdict f l (refused r) a z = absurd (not-refused (messageIn s f l) r (a z))
+    by-verdict f l (refused r) n a z = absurd (not-refused (messageIn s f l) r (a z))
 
     by-walk : (o : Option Report) → walk judge s place ≡ o → readReport judge (length s) o lent .result .outcome .answer ≡ 0
         → ReadAgain s lent (readReport judge (length s) o lent)
     by-walk none q z = absurd (omega arith)
-    by-walk (some r) q z = by-verdict (r .start) (r .end) (r .verdict) (walked-again s place r q) z
+    by-walk (some r) q z = by-verdict (r .start) (r .end) (r .verdict) (r .noise) (walked-again s place r q) z
 
 -- A record has the opcode, which finds the kind, and what its writer was given.
 pub record-tells : (k : Kind) (b p : List ℕ) (l : Kind) (c q : List ℕ) → Ours k b p → Ours l c q → recordFor k b p ≡ recordFor l c q

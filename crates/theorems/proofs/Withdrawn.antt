@@ -53,11 +53,11 @@ reported-made : (s : List ℕ) (place : ℕ) (room : List ℕ) → All ReportNot
 reported-made s place room = made-all ReportNot14 s place room (reported s place)
 
 -- Nor is what is recorded of a message that is not 14: 13 may come of it.
-recorded : (f e : ℕ) (v : Verdict) (lent : List ℕ) → Not14 (outcomeOf v) → Not14 (stream.readInto f e v lent .result .outcome)
-recorded f e (refused o) lent h = h
-recorded f e (done o b p) lent h = by-room (leb (length p) (length lent)) refl
+recorded : (f e : ℕ) (v : Verdict) (n : ℕ) (lent : List ℕ) → Not14 (outcomeOf v) → Not14 (stream.readInto f e v n lent .result .outcome)
+recorded f e (refused o) n lent h = h
+recorded f e (done o b p) n lent h = by-room (leb (length p) (length lent)) refl
   where
-    by-room : (t : Bool) → leb (length p) (length lent) ≡ t → Not14 (stream.readInto f e (done o b p) lent .result .outcome)
+    by-room : (t : Bool) → leb (length p) (length lent) ≡ t → Not14 (stream.readInto f e (done o b p) n lent .result .outcome)
     by-room true q = rw q (λ z. omega arith)
     by-room false q = rw q (λ z. omega arith)
 
@@ -71,7 +71,7 @@ no-input-gives-14 =
       reports-made = reported-made;
       read = λ s place lent. not-14 _ _ _ (room-refusals (walkRows (found s place)) _ lent (walk-refusals (found s place))) (d .read s place lent .decides);
       judges = judged;
-      records = λ f e m lent. recorded f e (judge m) lent (judged m);
+      records = λ f e n m lent. recorded f e (judge m) n lent (judged m);
       write = λ k b p out. not-14 _ _ _ (room-refusals (givenRows k b p) _ out (given-refusals k b p)) (d .write k b p out .decides);
       bank = λ ps out. not-14 _ _ _ (bank-table-refusals ps out) (d .bank ps out .decides);
       edit = λ n v p. not-14 _ _ _ (both-refusals (editRows n v) (patchRows p) (edit-refusals n v) (patch-refusals p)) (d .edit n v p .decides);

@@ -105,8 +105,8 @@ pub data PlaceOf (ps : List ℕ) (b : BankOutcome) : Type 0 where
 -- Demand 1, whole.
 pub record Demand1 : Type 0 where
   pub walk : (s : List ℕ) (place : ℕ) → let l = found s place in Decides (walkRows l) (opcodeIn l) (walked s place .outcome)
-  -- where there is no F0H, start and end are the input's length
-  pub nowhere : (s : List ℕ) (place : ℕ) → found s place ≡ [] → (walked s place .start ≡ length s) × (walked s place .end ≡ length s)
+  -- where there is no F0H, start and end are the input's length, and nothing stands between them
+  pub nowhere : (s : List ℕ) (place : ℕ) → found s place ≡ [] → let r = walked s place in (r .start ≡ length s) × (r .end ≡ length s) × (r .noise ≡ 0)
   -- each report of a stream, from any place on, answers as the walk from its start
   pub reports-each : (s : List ℕ) (place : ℕ)
       → All (λ r. let l = found s (r .start) in Decides (walkRows l) (opcodeIn l) (outcomeOf (r .verdict))) (reportsFrom judge (length s) s place)
@@ -115,9 +115,11 @@ pub record Demand1 : Type 0 where
       let n = length (packedIn (recordIn l)) in
       let e = reads s place lent in
       Answered (thenRoom (walkRows l) n lent) (opcodeIn l) n lent (e .result .report .outcome) (e .lent)
-  -- with every answer a record's start and end are those of the walk
+  -- with every answer a record's start and end are those of the walk, and so is its noise
   pub read-where : (s : List ℕ) (place : ℕ) (lent : List ℕ)
-      → let r = reads s place lent .result .report in (r .start ≡ walked s place .start) × (r .end ≡ walked s place .end)
+      → let r = reads s place lent .result .report in
+      let w = walked s place in
+      (r .start ≡ w .start) × (r .end ≡ w .end) × (r .noise ≡ w .noise)
   -- the bytes that come with the answer are zero with every answer but 0
   pub read-bytes : (s : List ℕ) (place : ℕ) (lent : List ℕ)
       → let r = reads s place lent .result in (r .report .outcome .answer ≡ 0 → ⊥) → r .bytes ≡ four []

@@ -63,12 +63,12 @@ startFrom n = keep (λ r. leb n (r .start))
 
 -- Places counted back from a stream's length.
 abbrev pub countedBack : ℕ → Report → Report
-countedBack n r = report (n - r .start) (n - r .end) (r .verdict)
+countedBack n r = report (n - r .start) (n - r .end) (r .verdict) (r .noise)
 
 abbrev pub readingBack : ℕ → Effect Reading → Effect Reading
 readingBack n e =
     let r = e .result in
-    record { result = reading (n - r .start) (n - r .end) (r .outcome) (r .bytes); lent = e .lent }
+    record { result = reading (n - r .start) (n - r .end) (r .outcome) (r .noise) (r .bytes); lent = e .lent }
 
 -- What reading a record gives at the start of each report of a list, lent the same buffer.
 abbrev pub readings : List ℕ → List ℕ → List Report → List (Effect Reading)
@@ -102,8 +102,8 @@ pub record Contained (before d e behind : List ℕ) (v : Verdict) : Type 0 where
   pub same-before : reportsBefore before e behind ≡ reportsBefore before d behind
   pub same-after : map (countedBack (length (stream before e behind))) (reportsAfter before e behind)
       ≡ map (countedBack (length (stream before d behind))) (reportsAfter before d behind)
-  -- the undamaged dump has one report, with answer 0 and its record; no report of the damaged dump has answer 0
-  pub accepted : reportsOfDump before d behind ≡ report (length before) (length before + length d) v ∷ []
+  -- the undamaged dump has one report, with answer 0, its record and no real time; no report of the damaged dump has answer 0
+  pub accepted : reportsOfDump before d behind ≡ report (length before) (length before + length d) v 0 ∷ []
   pub refused : All (λ r. answerOf (r .verdict) ≡ 0 → ⊥) (reportsOfDump before e behind)
   -- reading at a report before or after gives the same and leaves equal bytes, lent a buffer of any length and content
   pub read-before : (lent : List ℕ)

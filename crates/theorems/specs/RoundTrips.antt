@@ -10,7 +10,7 @@ use Rattle.answers.specs.Lists.{All}
 use Rattle.answers.specs.Table.{Verdict, done, outcome, answerOf}
 use Rattle.answers.specs.Effect.{Effect}
 use Rattle.streams.specs.Bytes.{withoutRealTime}
-use Rattle.streams.specs.Stream.{Report, report, Reading, reading, walk, reports, read}
+use Rattle.streams.specs.Stream.{Report, report, Reading, reading, between, walk, reports, read}
 use Rattle.fields.specs.Fields.{size}
 use Rattle.names.specs.Names.{naming, showing}
 use Rattle.edits.specs.Edits.{applying, applyingBus}
@@ -36,9 +36,9 @@ putting m out = record { result = outcome 0 (length m); lent = m ++ drop (length
 abbrev pub sent : Kind → List ℕ → List ℕ → List ℕ → List ℕ
 sent k b p out = take (writing k b p out .result .detail) (writing k b p out .lent)
 
--- The report of the message from a place on.
+-- The report of the message from a place on: a writer puts no real time into it.
 abbrev pub reportFor : Kind → List ℕ → List ℕ → ℕ → Report
-reportFor k b p place = report place (place + length (message k b p)) (recordFor k b p)
+reportFor k b p place = report place (place + length (message k b p)) (recordFor k b p) 0
 
 -- What the writer put into out, with any bytes before and behind it, is found whole and read back the same.
 pub record ReadBack (k : Kind) (b p out before behind : List ℕ) : Type 0 where
@@ -52,7 +52,7 @@ pub record ReadBack (k : Kind) (b p out before behind : List ℕ) : Type 0 where
   pub same : (lent : List ℕ) → length p ≤ length lent
       → read judge (stream before (sent k b p out) behind) (length before) lent
       ≡ record {
-        result = reading (length before) (length before + length (message k b p)) (outcome 0 (opcodeOf k)) b;
+        result = reading (length before) (length before + length (message k b p)) (outcome 0 (opcodeOf k)) 0 b;
         lent = p ++ drop (length p) lent;
       }
 
@@ -72,7 +72,7 @@ pub record Again (m : List ℕ) (v : Verdict) : Type 0 where
 
 -- The bytes of a stream from one place up to another, less real time.
 abbrev pub messageIn : List ℕ → ℕ → ℕ → List ℕ
-messageIn s start end = withoutRealTime (take (end - start) (drop start s))
+messageIn s start end = withoutRealTime (between s start end)
 
 -- Every message of a stream that is accepted is the same, less its real-time bytes, when it is written again.
 abbrev pub WrittenAgain : Type 0
@@ -93,7 +93,7 @@ abbrev pub bankReports : ℕ → ℕ → ℕ → List ℕ → List Report
 bankReports place zero k ps = []
 bankReports place (suc n) k ps =
     report (place + k * singlePatch .length) (place + (k + 1) * singlePatch .length)
-    (recordFor (ofDump singlePatch) (k ∷ []) (take size (drop (k * size) ps))) ∷ bankReports place n (k + 1) ps
+    (recordFor (ofDump singlePatch) (k ∷ []) (take size (drop (k * size) ps))) 0 ∷ bankReports place n (k + 1) ps
 
 -- The bytes that the writer of a bank put at the start of an output.
 abbrev pub bankSent : List ℕ → List ℕ → List ℕ

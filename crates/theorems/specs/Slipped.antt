@@ -11,7 +11,7 @@ use Rattle.theorems.specs.Damage.{replaceTwo, exchange, damaged, reports
 
 -- The damaged dump e in the place of d has one report, with the refusal o.
 abbrev pub Shows : (before d e behind : List ℕ) → Outcome → Type 0
-Shows before d e behind o = reportsOfDump before e behind ≡ report (length before) (length before + length d) (refused o) ∷ []
+Shows before d e behind o = reportsOfDump before e behind ≡ report (length before) (length before + length d) (refused o) 0 ∷ []
 
 -- The dump d between any bytes.
 pub record Slips (before d behind : List ℕ) : Type 0 where

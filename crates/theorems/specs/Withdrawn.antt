@@ -41,7 +41,7 @@ pub record NoInputGives14 : Type 0 where
   pub read : (s : List ℕ) (place : ℕ) (lent : List ℕ) → Not14 (reads s place lent .result .report .outcome)
   -- a message by itself, judged and recorded
   pub judges : (m : List ℕ) → Not14 (outcomeOf (judge m))
-  pub records : (start end : ℕ) (m lent : List ℕ) → Not14 (stream.readInto start end (judge m) lent .result .outcome)
+  pub records : (start end noise : ℕ) (m lent : List ℕ) → Not14 (stream.readInto start end (judge m) noise lent .result .outcome)
   -- writing a message of any kind, so both edits, and a bank
   pub write : (k : Kind) (b p out : List ℕ) → Not14 (writing k b p out .result)
   pub bank : (ps out : List ℕ) → Not14 (writingBank ps out .result .outcome)

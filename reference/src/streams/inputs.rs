@@ -306,6 +306,101 @@ pub fn place(random: &mut Random, input: &[u8]) -> usize {
     }
 }
 
+/// These bytes with one FEH (Active Sensing) behind every `every`-th of them; `every` is not 0. One
+/// stands behind the last byte too if the number of bytes is a multiple of `every`.
+#[must_use]
+pub fn with_active_sensing(bytes: &[u8], every: usize) -> Vec<u8> {
+    let mut noisy = Vec::with_capacity(bytes.len() + bytes.len() / every);
+    for part in bytes.chunks(every) {
+        noisy.extend_from_slice(part);
+        if part.len() == every {
+            noisy.push(ACTIVE_SENSING);
+        }
+    }
+    noisy
+}
+
+const ACTIVE_SENSING: u8 = 0xFE;
+
+/// Real time: one value again and again, or any.
+pub fn real_time(random: &mut Random, length: usize) -> Vec<u8> {
+    let only = random.byte_within(0xF8..=0xFF);
+    if random.one_in(2) {
+        return vec![only; length];
+    }
+    let any = (0..length).map(|_| random.byte_within(0xF8..=0xFF));
+    any.collect()
+}
+
+/// The bytes inside a message with real time before, between or behind them: runs of it, dense,
+/// sparse, or a few here and there.
+pub fn with_real_time(random: &mut Random, inside: &[u8]) -> Vec<u8> {
+    match random.below(4) {
+        0 => with_runs(random, inside),
+        1 => with_dense_real_time(random, inside),
+        2 => with_sparse_real_time(random, inside),
+        _ => with_scattered(random, inside),
+    }
+}
+
+/// Lengths of runs: around those of the blocks in which a message may be looked through, and more
+/// than a byte can count.
+const RUNS: [usize; 17] = [
+    1, 7, 8, 9, 15, 16, 17, 31, 33, 63, 65, 127, 129, 255, 257, 301, 400,
+];
+
+/// One or two runs of real time: before the first byte, behind the last, or anywhere.
+pub fn with_runs(random: &mut Random, inside: &[u8]) -> Vec<u8> {
+    let mut noisy = inside.to_vec();
+    for _ in 0..random.within(1..=2) {
+        let at = match random.below(3) {
+            0 => 0,
+            1 => noisy.len(),
+            _ => random.below(noisy.len() + 1),
+        };
+        let length = random.pick(&RUNS);
+        noisy.splice(at..at, real_time(random, length));
+    }
+    noisy
+}
+
+/// Real time behind every byte, every second or every third.
+pub fn with_dense_real_time(random: &mut Random, inside: &[u8]) -> Vec<u8> {
+    let every = random.within(1..=3);
+    with_real_time_every(random, inside, every)
+}
+
+/// Real time behind every 16th byte, or about as often or as seldom.
+pub fn with_sparse_real_time(random: &mut Random, inside: &[u8]) -> Vec<u8> {
+    let every = random.pick(&[8, 15, 16, 17, 31, 32, 33, 64, 128]);
+    with_real_time_every(random, inside, every)
+}
+
+/// Real time before one of the first `every` bytes, and again behind every `every`-th byte from
+/// there on.
+fn with_real_time_every(random: &mut Random, inside: &[u8], every: usize) -> Vec<u8> {
+    let first = random.below(every.min(inside.len() + 1));
+    let mut ticks = real_time(random, inside.len() / every + 1).into_iter();
+    let mut noisy = Vec::new();
+    for place in 0..=inside.len() {
+        if place % every == first {
+            noisy.extend(ticks.next());
+        }
+        noisy.extend(inside.get(place));
+    }
+    noisy
+}
+
+/// One to five bytes of real time, each anywhere.
+fn with_scattered(random: &mut Random, inside: &[u8]) -> Vec<u8> {
+    let mut noisy = inside.to_vec();
+    for _ in 0..random.within(1..=5) {
+        let at = random.below(noisy.len() + 1);
+        noisy.insert(at, random.byte_within(0xF8..=0xFF));
+    }
+    noisy
+}
+
 /// Any bytes.
 pub fn bytes(random: &mut Random, length: usize) -> Vec<u8> {
     (0..length).map(|_| random.byte()).collect()

@@ -23,7 +23,12 @@ const fn kind(name: &'static str, piece: Piece) -> Kind {
 }
 
 /// The kinds, in the order in which seeds pick them.
-static KINDS: [Kind; 35] = [
+static KINDS: [Kind; 40] = [
+    kind("real time only", pieces::real_time_only),
+    kind("real time in runs", pieces::real_time_runs),
+    kind("dense real time", pieces::dense_real_time),
+    kind("sparse real time", pieces::sparse_real_time),
+    kind("real time between", pieces::real_time_between),
     kind("nearly nothing", pieces::nearly_nothing),
     kind("single patch", pieces::single_patch),
     kind("edit buffer", pieces::edit_buffer),
@@ -111,8 +116,10 @@ fn surrounded(random: &mut Random, piece: Piece) -> Vec<u8> {
         piece(random, &mut out);
         surroundings(random, &mut out);
     }
-    if random.one_in(8) {
-        pieces::cut(random, &mut out);
+    match random.below(8) {
+        0 => pieces::cut(random, &mut out),
+        1 => pieces::noisy_cut(random, &mut out),
+        _ => {}
     }
     out
 }
@@ -136,12 +143,15 @@ fn any_piece(random: &mut Random, out: &mut Vec<u8>) {
 
 /// A stream of exactly this many bytes.
 fn sized(random: &mut Random, size: usize) -> Vec<u8> {
-    match random.below(8) {
+    match random.below(9) {
         0 => vec![random.pick(&[0x00, START, END, 0xFE]); size],
         1 => {
-            // A start, then real time only.
+            // A start, then real time only; sometimes the message is complete.
             let mut out = vec![random.byte_within(0xF8..=0xFF); size];
             out[0] = START;
+            if random.one_in(2) {
+                out[size - 1] = END;
+            }
             out
         }
         2 => {
@@ -153,7 +163,8 @@ fn sized(random: &mut Random, size: usize) -> Vec<u8> {
         }
         3 => filled(random, size, pieces::start_rich_noise),
         4 => filled(random, size, pieces::remote_edit),
-        5 => {
+        5 => filled(random, size, pieces::dense_real_time),
+        6 => {
             // A whole message at the very end.
             let mut last = Vec::new();
             pieces::good_message(random, &mut last);

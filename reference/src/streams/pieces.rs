@@ -322,22 +322,114 @@ pub(super) fn real_time_inside(random: &mut Random, out: &mut Vec<u8>) {
     sprinkle(random, start, out);
 }
 
+/// Messages with a fault, each complete.
+const FAULTY: [Piece; 9] = [
+    bad_number,
+    fields_out_of_range,
+    half_used,
+    wide_data,
+    wrong_sum,
+    wrong_length,
+    other_manufacturer,
+    other_device,
+    other_opcode,
+];
+
 /// A refused message with real time inside.
 pub(super) fn real_time_in_refused(random: &mut Random, out: &mut Vec<u8>) {
-    const KINDS: [Piece; 9] = [
-        bad_number,
-        fields_out_of_range,
-        half_used,
-        wide_data,
-        wrong_sum,
-        wrong_length,
-        other_manufacturer,
-        other_device,
-        other_opcode,
-    ];
     let start = out.len();
-    random.pick(&KINDS)(random, out);
+    random.pick(&FAULTY)(random, out);
     sprinkle(random, start, out);
+}
+
+/// F0H and a run of real time.
+pub(super) fn real_time_only(random: &mut Random, out: &mut Vec<u8>) {
+    noisy(random, &[], inputs::with_runs, out);
+}
+
+/// Messages with runs of real time inside, often right behind the F0H or before the end.
+pub(super) fn real_time_runs(random: &mut Random, out: &mut Vec<u8>) {
+    noisy_messages(random, inputs::with_runs, out);
+}
+
+/// Messages with real time behind every byte inside, every second or every third.
+pub(super) fn dense_real_time(random: &mut Random, out: &mut Vec<u8>) {
+    noisy_messages(random, inputs::with_dense_real_time, out);
+}
+
+/// Messages with real time behind every 16th byte inside, or about as often or as seldom.
+pub(super) fn sparse_real_time(random: &mut Random, out: &mut Vec<u8>) {
+    noisy_messages(random, inputs::with_sparse_real_time, out);
+}
+
+/// Puts real time among the bytes inside a message.
+type Noise = fn(&mut Random, &[u8]) -> Vec<u8>;
+
+/// A few messages of any kind, accepted or refused, with noise inside.
+fn noisy_messages(random: &mut Random, noise: Noise, out: &mut Vec<u8>) {
+    for _ in 0..random.within(1..=3) {
+        let mut message = Vec::new();
+        if random.one_in(2) {
+            good_message(random, &mut message);
+        } else {
+            random.pick(&FAULTY)(random, &mut message);
+        }
+        noisy(random, &message[1..message.len() - 1], noise, out);
+    }
+}
+
+/// A message with noise among these bytes, complete, interrupted or left open. One that isn't
+/// complete may have lost some of them.
+fn noisy(random: &mut Random, inside: &[u8], noise: Noise, out: &mut Vec<u8>) {
+    let part = &inside[..random.below(inside.len() + 1)];
+    out.push(START);
+    match random.below(4) {
+        0 => {
+            out.extend(noise(random, part));
+            interruption(random, out);
+        }
+        1 => out.extend(noise(random, part)),
+        _ => {
+            out.extend(noise(random, inside));
+            out.push(END);
+        }
+    }
+}
+
+/// A status byte or a message that interrupts, and behind it real time and data that stand in no
+/// message.
+fn interruption(random: &mut Random, out: &mut Vec<u8>) {
+    match random.below(3) {
+        0 => good_message(random, out),
+        1 => out.push(random.byte_within(0x80..=0xEF)),
+        _ => out.push(random.byte_within(0xF1..=0xF6)),
+    }
+    real_time(random, out);
+    data(random, 5, out);
+    if random.one_in(2) {
+        out.push(END);
+    }
+}
+
+/// Real time in no message: before and behind messages, data and status bytes.
+pub(super) fn real_time_between(random: &mut Random, out: &mut Vec<u8>) {
+    for _ in 0..random.within(1..=4) {
+        real_time(random, out);
+        match random.below(4) {
+            0 => out.push(random.byte_within(0x80..=0xEF)),
+            1 => out.push(END),
+            2 => data(random, 20, out),
+            _ => good_message(random, out),
+        }
+        real_time(random, out);
+    }
+}
+
+/// A little real time, sometimes a run of it.
+fn real_time(random: &mut Random, out: &mut Vec<u8>) {
+    let most = random.pick(&[3, 3, 3, 40]);
+    let length = random.within(0..=most);
+    out.extend(inputs::real_time(random, length));
 }
 
 /// A message without its last bytes; what follows, if anything, interrupts it.
@@ -345,6 +437,14 @@ pub(super) fn cut(random: &mut Random, out: &mut Vec<u8>) {
     let start = out.len();
     good_message(random, out);
     out.truncate(random.within(start + 1..=out.len() - 1));
+}
+
+/// The same with real time inside.
+pub(super) fn noisy_cut(random: &mut Random, out: &mut Vec<u8>) {
+    let mut message = Vec::new();
+    cut(random, &mut message);
+    out.push(START);
+    out.extend(inputs::with_real_time(random, &message[1..]));
 }
 
 /// A message with a status byte inside: another message's start, a voice message, an undefined one.

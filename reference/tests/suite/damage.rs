@@ -74,6 +74,7 @@ fn dumps_that_route_a_lever_to_portamento_time() {
 #[test]
 fn dumps_in_streams_of_many_seeds() {
     let mut random = Random::new(32);
+    let mut noisy = [0; 2];
     for seed in 0..4_000 {
         let patch = inputs::good_patch(&mut random);
         let dump = if random.one_in(2) {
@@ -90,7 +91,11 @@ fn dumps_in_streams_of_many_seeds() {
             let places = damageable(undamaged.start);
             undamaged.survives(Damage::any(&mut random, &undamaged.stream, places));
         }
+        let [before, behind] = undamaged.noisy();
+        noisy = [noisy[0] + before, noisy[1] + behind];
     }
+    // Real time is compared on both sides.
+    assert!(noisy.iter().all(|&count| count > 3_000), "{noisy:?}");
 }
 
 #[test]

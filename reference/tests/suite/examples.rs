@@ -186,10 +186,10 @@ fn the_whole_listing() {
         0x41, 0xF0, 0xF7, 0xF0, 0x10, 0x06, 0x06, 0x15, 0x7F, 0xF7, 0xF0,
     ];
     let expected = "\
-start end answer detail value
-1 3 4 0 0
-3 10 0 6 0
-10 11 2 0 0
+start end answer detail value rt
+1 3 4 0 0 0
+3 10 0 6 0 0
+10 11 2 0 0 0
 messages 3
 ";
     assert_eq!(String::from_utf8(listing(&input)).unwrap(), expected);

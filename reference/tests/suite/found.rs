@@ -11,8 +11,8 @@ use reference::{
 };
 
 use crate::kit::{
-    bus_message, dump, edit_message, found, outcome, p_with, reading_outcome, refuses, report,
-    report_outcome, reported, with_real_time, P,
+    bus_message, dump, edit_message, found, noisy, outcome, p_with, reading_outcome, refuses,
+    report, report_outcome, reported, with_real_time, P,
 };
 use crate::model;
 
@@ -105,8 +105,8 @@ fn bus_edit(bytes: [u8; 4], refusal: Outcome) {
 
 /// A message gets this refusal from the walk, from reading with any buffer, and in a stream.
 fn reads(message: &[u8], refusal: Outcome) {
-    let end = message.len();
-    assert_eq!(walk(message, 0), reported(0, end, refusal));
+    let (end, noise) = (message.len(), model::noise(message));
+    assert_eq!(walk(message, 0), noisy(noise, reported(0, end, refusal)));
     for length in [0, 134, 172] {
         let mut buffer = [0xA5; 172];
         let expected = Reading {
@@ -115,6 +115,7 @@ fn reads(message: &[u8], refusal: Outcome) {
             answer: refusal.answer,
             detail: refusal.detail,
             value: refusal.value,
+            noise,
             bytes: [0; 4],
         };
         assert_eq!(read(message, 0, &mut buffer[..length]), expected);
@@ -127,10 +128,10 @@ fn reads(message: &[u8], refusal: Outcome) {
 fn reads_between_others(message: &[u8], refusal: Outcome) {
     let before = edit_message([0x15, 0x7F]);
     let stream = [&before, message, &[0xF0]].concat();
-    let end = 7 + message.len();
+    let (end, noise) = (7 + message.len(), model::noise(message));
     let expected = [
         report(0, 7, 0, 6),
-        reported(7, end, refusal),
+        noisy(noise, reported(7, end, refusal)),
         report(end, end + 1, 2, 0),
     ];
     assert!(reports(&stream).eq(expected));
@@ -141,8 +142,8 @@ fn reads_between_others(message: &[u8], refusal: Outcome) {
         value,
     } = refusal;
     let text = format!(
-        "start end answer detail value\n0 7 0 6 0\n7 {end} {answer} {detail} {value}\n\
-         {end} {} 2 0 0\nmessages 3\n",
+        "start end answer detail value rt\n0 7 0 6 0 0\n\
+         7 {end} {answer} {detail} {value} {noise}\n{end} {} 2 0 0 0\nmessages 3\n",
         end + 1
     );
     assert_eq!(String::from_utf8(listing(&stream)).unwrap(), text);
@@ -405,12 +406,13 @@ fn the_listing_prints_what_the_reports_hold() {
         if input.len() > 65_536 {
             continue;
         }
-        let mut text = String::from("start end answer detail value\n");
+        let mut text = String::from("start end answer detail value rt\n");
         let found: Vec<_> = reports(&input).collect();
         for report in &found {
             let (start, end) = (report.start, report.end);
             let (answer, detail, value) = (report.answer, report.detail, report.value);
-            text += &format!("{start} {end} {answer} {detail} {value}\n");
+            let noise = report.noise;
+            text += &format!("{start} {end} {answer} {detail} {value} {noise}\n");
         }
         text += &format!("messages {}\n", found.len());
         assert_eq!(String::from_utf8(listing(&input)).unwrap(), text);

@@ -60,12 +60,12 @@ pub const fn found(place: usize, value: i16) -> Outcome {
     }
 }
 
-/// A report written as document 01 prints it, for an answer other than 11.
+/// A report written as document 01 prints it, for an answer other than 11. No real time.
 pub const fn report(start: usize, end: usize, answer: u8, detail: usize) -> Report {
     reported(start, end, outcome(answer, detail))
 }
 
-/// The report of a message with this answer.
+/// The report of a message with this answer and no real time.
 pub const fn reported(start: usize, end: usize, tested: Outcome) -> Report {
     let Outcome {
         answer,
@@ -78,7 +78,19 @@ pub const fn reported(start: usize, end: usize, tested: Outcome) -> Report {
         answer,
         detail,
         value,
+        noise: 0,
     }
+}
+
+/// The same report of a message with this much real time.
+pub const fn noisy(noise: usize, report: Report) -> Report {
+    Report { noise, ..report }
+}
+
+/// What a reading has in common with the walk's report.
+pub const fn read_as(reading: &Reading) -> Report {
+    let report = reported(reading.start, reading.end, reading_outcome(reading));
+    noisy(reading.noise, report)
 }
 
 /// The answer that a report holds.

@@ -9,6 +9,8 @@ mod hostile;
 mod kit;
 mod model;
 mod neighbours;
+mod noise;
+mod noisy_streams;
 mod other_machines;
 mod portamento;
 mod programs;

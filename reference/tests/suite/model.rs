@@ -1,5 +1,5 @@
-//! Document 01 once more, with document 02's destinations and values, as slowly and plainly as it
-//! can be said, to hold the quick code against.
+//! Document 01 once more, with document 02's destinations, values and noise, as slowly and plainly
+//! as it can be said, to hold the quick code against.
 
 /// The condensed line of document 01 for bytes 8 to 85.
 const LINE: &str = "8:48:2 9:0:6 10:5:6 11:3:6 12:7:2 13:6:2 14:10:6 15:15:6 16:13:6 17:17:2 \
@@ -77,20 +77,33 @@ pub fn allows(fields: &[Field], place: usize, stored: u8) -> bool {
 /// Answer, detail and value.
 type Judged = (u8, usize, i16);
 
-/// Start and end of every report, with its answer, detail and value.
-pub fn reports(input: &[u8]) -> Vec<(usize, usize, Judged)> {
+/// Start, end, what was judged, and how many bytes F8H..FFH stand between start and end.
+type Told = (usize, usize, Judged, usize);
+
+/// What every report holds.
+pub fn reports(input: &[u8]) -> Vec<Told> {
     let fields = fields();
     let starts = (0..input.len()).filter(|&place| input[place] == 0xF0);
-    starts.map(|start| one(&fields, input, start)).collect()
+    let told = starts.map(|start| {
+        let (end, judged) = one(&fields, input, start);
+        (start, end, judged, noise(&input[start..end]))
+    });
+    told.collect()
 }
 
-fn one(fields: &[Field], input: &[u8], start: usize) -> (usize, usize, Judged) {
+/// How many of the bytes are F8H..FFH.
+pub fn noise(bytes: &[u8]) -> usize {
+    bytes.iter().filter(|&&byte| byte >= 0xF8).count()
+}
+
+/// The end of the message that starts here, and what it is judged.
+fn one(fields: &[Field], input: &[u8], start: usize) -> (usize, Judged) {
     let mut place = start + 1;
     loop {
         match input.get(place) {
-            None => return (start, place, (2, 0, 0)),
+            None => return (place, (2, 0, 0)),
             Some(0xF7) => break,
-            Some(0x80..=0xF6) => return (start, place, (3, 0, 0)),
+            Some(0x80..=0xF6) => return (place, (3, 0, 0)),
             Some(_) => place += 1,
         }
     }
@@ -100,7 +113,7 @@ fn one(fields: &[Field], input: &[u8], start: usize) -> (usize, usize, Judged) {
         .copied()
         .filter(|&byte| byte < 0xF8)
         .collect();
-    (start, end, judge(fields, &message))
+    (end, judge(fields, &message))
 }
 
 /// The card from 4 on. The message is complete and has no real time.

@@ -34,15 +34,15 @@ fn the_listing_program() {
     ];
     assert_eq!(
         listing_of(&example),
-        b"start end answer detail value\n1 3 4 0 0\n3 10 0 6 0\n10 11 2 0 0\nmessages 3\n"
+        b"start end answer detail value rt\n1 3 4 0 0 0\n3 10 0 6 0 0\n10 11 2 0 0 0\nmessages 3\n"
     );
     assert_eq!(
         listing_of(&[]),
-        b"start end answer detail value\nmessages 0\n"
+        b"start end answer detail value rt\nmessages 0\n"
     );
     assert_eq!(
         listing_of(&[0; 65_536]),
-        b"start end answer detail value\nmessages 0\n"
+        b"start end answer detail value rt\nmessages 0\n"
     );
     assert_eq!(listing_of(&[0; 65_537]), b"input too long\n");
     assert_eq!(listing_of(&vec![0xF0; 1 << 20]), b"input too long\n");

@@ -5,7 +5,7 @@ use reference::{
     write_bus_edit, write_edit, write_edit_buffer, write_master, write_patch, BankOutcome, Outcome,
 };
 
-use crate::kit::{dump, found, outcome, reading_outcome, refuses, report, reported, P};
+use crate::kit::{dump, found, noisy, outcome, reading_outcome, refuses, report, reported, P};
 
 /// P with a field out of range at 100 and 9, each 64, and buses 7 and 3 half used.
 fn twice_bad() -> [u8; 134] {
@@ -100,11 +100,15 @@ fn ends_of_short_messages() {
         (&[0xF0, 0x10, 0x06, 0x06, 0xF7], 7),
         (&[0xF0, 0x10, 0x06, 0x06, 0x15, 0xF7], 7),
         (&[0xF0, 0x10, 0x06, 0x06, 0x15, 0x7F, 0x00, 0xF7], 7),
-        (&[0xF0, 0xFE, 0xF7], 4),
-        (&[0xF0, 0x10, 0xFE, 0xF7], 5),
-        (&[0xF0, 0x10, 0x06, 0xFE, 0xF7], 6),
     ] {
         assert_eq!(walk(message, 0), report(0, message.len(), answer, 0));
+        // Real time before the F7H is no byte of the header.
+        let [inside @ .., end] = message else {
+            panic!("{message:?}");
+        };
+        let ticking = [inside, &[0xFE], &[*end]].concat();
+        let expected = report(0, ticking.len(), answer, 0);
+        assert_eq!(walk(&ticking, 0), noisy(1, expected));
     }
 }
 

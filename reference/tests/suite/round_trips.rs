@@ -109,6 +109,7 @@ fn real_time_inside_changes_neither_answer_nor_record() {
             assert_eq!((again.start, again.end), (0, noisy.len()));
             assert_eq!(reading_outcome(&again), reading_outcome(&reading));
             assert_eq!((again.bytes, same), (reading.bytes, packed));
+            assert_eq!((reading.noise, again.noise), (0, message.len() - 1));
         }
     }
 }

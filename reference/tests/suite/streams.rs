@@ -25,7 +25,7 @@ fn consecutive_seeds_cover_every_kind_and_size() {
     for from in [0, 57, 1_000_000] {
         let seeds = from..from + CYCLE;
         let kinds: BTreeSet<_> = seeds.clone().map(kind_of).collect();
-        assert_eq!(kinds.len(), 36);
+        assert_eq!(kinds.len(), 41);
         let lengths: Vec<_> = seeds.map(|seed| stream(seed).len()).collect();
         for size in [65_535, 65_536, 65_537] {
             assert_eq!(lengths.iter().filter(|&&length| length == size).count(), 1);

@@ -32,7 +32,7 @@ impl Undamaged {
         let (start, end) = (before.len(), before.len() + dump.len());
         let (before, rest): (Vec<_>, Vec<_>) =
             reports(&stream).partition(|report| report.start < start);
-        // The dump has one report, with answer 0.
+        // The dump has one report, with answer 0 and no real time.
         let opcode = usize::from(dump[3]);
         assert_eq!(rest[0], report(start, end, 0, opcode));
         let after = rest[1..].to_vec();
@@ -45,6 +45,12 @@ impl Undamaged {
             after,
             lent: &LENT,
         }
+    }
+
+    /// The numbers of noisy reports before the dump and behind it.
+    pub fn noisy(&self) -> [usize; 2] {
+        [&self.before, &self.after]
+            .map(|list| list.iter().filter(|report| report.noise > 0).count())
     }
 
     /// The places of its data bytes.
@@ -106,6 +112,7 @@ impl Undamaged {
             };
             assert_eq!(counted(first, &self.stream), counted(second, damaged));
             assert_eq!(reading_outcome(&first), reading_outcome(&second));
+            assert_eq!(first.noise, second.noise);
             assert_eq!(first.bytes, second.bytes);
         }
     }

@@ -4,9 +4,10 @@ use std::fs;
 use std::path::{Path, PathBuf};
 
 use reference::streams::damage::{low_nibble, Damage};
+use reference::streams::inputs::with_active_sensing;
 use reference::{apply_bus_edit, apply_edit, listing, nibbles, reports, show_name, test_patch};
 
-use crate::kit::{bass, outcome, record, P};
+use crate::kit::{bass, less_real_time, outcome, record, report_outcome, P};
 use crate::model;
 
 /// The names of the dumps in most of them.
@@ -116,6 +117,33 @@ fn nibble_pairs_put_back_are_the_dumps_as_written() {
         bank_names(&stream),
         [BASS, BASS, BASS, STRINGS, BASS, BASS, STRINGS, LEAD, BASS, LEAD]
     );
+}
+
+#[test]
+fn active_sensing_is_the_bank_with_feh_behind_every_third_byte() {
+    let (stream, bank) = (vector("active_sensing"), vector("bank_of_three"));
+    assert_eq!(stream, with_active_sensing(&bank, 3));
+    assert_eq!(bank_names(&stream), [BASS, STRINGS, LEAD]);
+    // One FEH of all stands behind the last dump.
+    let counted: usize = reports(&stream).map(|report| report.noise).sum();
+    assert_eq!(counted + 1, stream.len() - bank.len());
+}
+
+#[test]
+fn a_noisy_line_carries_the_dumps_all_the_same() {
+    let stream = vector("noisy_line");
+    let dumps = [(3, BASS), (918, STRINGS), (1210, LEAD)];
+    assert!(dumps
+        .iter()
+        .all(|&(start, name)| name_at(&stream, start) == name));
+    assert_eq!(record(&stream, 304).0.bytes, [0x15, 0x7F, 0, 0]);
+    // Of its real time, 24 bytes stand in no message.
+    let counted: usize = reports(&stream).map(|report| report.noise).sum();
+    assert_eq!(counted + 24, model::noise(&stream));
+    // Without any, every message has the same answer.
+    let quiet = less_real_time(&stream);
+    let told = reports(&stream).map(|report| report_outcome(&report));
+    assert!(told.eq(reports(&quiet).map(|report| report_outcome(&report))));
 }
 
 #[test]

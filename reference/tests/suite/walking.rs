@@ -3,7 +3,7 @@
 use reference::streams::{inputs, stream, Random, CYCLE};
 use reference::{read, reports, walk, Reading, Report};
 
-use crate::kit::{outcome, reading_outcome, record, report, reported};
+use crate::kit::{noisy, outcome, read_as, reading_outcome, record, report};
 use crate::model;
 
 /// Seeds enough to meet each kind of stream many times.
@@ -16,7 +16,7 @@ fn reports_are_those_of_the_plain_model() {
         let found: Vec<_> = reports(&input)
             .map(|report| {
                 let judged = (report.answer, report.detail, report.value);
-                (report.start, report.end, judged)
+                (report.start, report.end, judged, report.noise)
             })
             .collect();
         assert_eq!(found, model::reports(&input), "seed {seed}");
@@ -49,9 +49,7 @@ fn reading_answers_as_the_walk_does_then_13() {
         let input = stream(seed);
         for found in reports(&input).take(200) {
             let (reading, packed) = record(&input, found.start);
-            let Reading { start, end, .. } = reading;
-            let read_as = reported(start, end, reading_outcome(&reading));
-            assert_eq!(read_as, found, "seed {seed}");
+            assert_eq!(read_as(&reading), found, "seed {seed}");
             if reading.answer != 0 {
                 assert_eq!(reading.bytes, [0; 4]);
             }
@@ -102,7 +100,7 @@ fn extents() {
     // Complete, with real time and data outside.
     assert_eq!(
         walk(&[0xFE, 0x40, 0xF0, 0xFE, 0xF7, 0xF7], 0),
-        report(2, 5, 4, 0)
+        noisy(1, report(2, 5, 4, 0))
     );
     // Interrupted by each status byte, which is not consumed.
     for status in (0x80..=0xF6).filter(|&status| status != 0xF0) {
@@ -114,7 +112,8 @@ fn extents() {
     assert_eq!(found, [report(0, 2, 3, 0), report(2, 4, 4, 0)]);
     // Cut, whatever stands in it.
     assert_eq!(walk(&[0xF0], 0), report(0, 1, 2, 0));
-    assert_eq!(walk(&[0xF0, 0x41, 0xFE], 0), report(0, 3, 2, 0));
+    let ticking = noisy(1, report(0, 3, 2, 0));
+    assert_eq!(walk(&[0xF0, 0x41, 0xFE], 0), ticking);
     // From inside a message the next one is found.
     assert_eq!(walk(&twice, 1), report(2, 4, 4, 0));
     assert_eq!(walk(&twice, 3), report(4, 4, 1, 0));

@@ -3,9 +3,10 @@
 use reference::{apply_bus_edit, extend, read, walk, write_bus_edit, Outcome, Report};
 
 use crate::kit::{
-    bus_message, found, less_real_time, outcome, reading_outcome, report, report_outcome, reported,
-    with_real_time, P,
+    bus_message, found, less_real_time, noisy, outcome, read_as, report, reported, with_real_time,
+    P,
 };
+use crate::model;
 
 /// The first two of each are allowed.
 const SOURCES: [u8; 4] = [0, 0x10, 21, 0xF7];
@@ -104,7 +105,7 @@ fn message(stream: &[u8], start: usize) -> Report {
         _ => outcome(4, 0),
     };
     let end = end + usize::from(stream.get(end) == Some(&0xF7));
-    reported(start, end, tested)
+    noisy(model::noise(inside), reported(start, end, tested))
 }
 
 #[test]
@@ -118,7 +119,7 @@ fn read_from_any_place() {
             if stream.get(place) == Some(&0xF0) {
                 next = message(&stream, place);
                 let found = read(&stream, place, &mut []);
-                assert_eq!(reading_outcome(&found), report_outcome(&next));
+                assert_eq!(read_as(&found), next);
                 met[usize::from(found.answer)] += 1;
             }
             assert_eq!(walk(&stream, place), next, "{edit:?}");

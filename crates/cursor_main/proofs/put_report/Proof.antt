@@ -1,4 +1,4 @@
--- `put_report` puts the line of its numbers, of which the last stands for the value.
+-- `put_report` puts the line of its numbers, of which the last but one stands for the value.
 use native.Mathlib.Omega.{arith}
 use borrow.Author.Needs.{needs}
 use mir.Syntax.{w16}

@@ -4,13 +4,8 @@ use mathlib.Core.List.{List, [], _∷_}
 use Prim.Native.Nat.{ℕ, suc, _+_}
 use lib.Dec.{eqb}
 use lib.ListN.{length, drop}
-use Rattle.streams.specs.Bytes.{isRealTime, byteKind, body}
+use Rattle.streams.specs.Bytes.{isRealTime, byteKind, body, realTimeIn}
 use Rattle.frames.specs.declared.Span.{Span}
-
--- How many bytes F8H..FFH stand in a list.
-unfoldable pub realTimeIn : List ℕ → ℕ
-realTimeIn [] = 0
-realTimeIn (b ∷ s) = cond (isRealTime (byteKind b)) (suc (realTimeIn s)) (realTimeIn s)
 
 -- How many bytes stand before the first F0H.
 unfoldable pub ahead : List ℕ → ℕ

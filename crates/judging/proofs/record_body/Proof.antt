@@ -7,13 +7,13 @@ use lib.ListN.{length, take}
 use lib.Seq.{length-take-le}
 use borrow.Author.Needs.{needs}
 use Rattle.answers.specs.Effect.{Gives}
-use Rattle.streams.specs.Bytes.{framed}
+use Rattle.streams.specs.Bytes.{withoutRealTime, framed}
 use Rattle.messages.specs.Kinds.{kindOf}
 use Rattle.messages.specs.Judge.{judge}
 use Rattle.messages.specs.code.Sizes.{packedSize}
 use Rattle.messages.proofs.Accepted.{Accepted}
 use Rattle.judging.specs.declared.Judged.{Judged}
-use Rattle.judging.specs.code.Content.{contentOf, contentBy}
+use Rattle.judging.specs.code.Content.{contentBy}
 use Rattle.judging.specs.code.Judged.{recordedAs}
 use Rattle.judging.proofs.Records.{accepted-so, record-refused, record-short, record-stored, nothing-packed}
 use Rattle.judging.proofs.record_body.Statement.{statement}
@@ -24,7 +24,7 @@ content j = contentBy (j .before .count-content .result) (j .before .before .bef
 
 -- What holds of the content by its count holds of the content.
 counted : (j : tie.After-judge-content) (lent after : List ℕ) (r : Judged) → let a = j .before .before .before .before .args in
-    Gives (recordedAs (judge (framed (content j))) lent) r after → Gives (recordedAs (judge (framed (contentOf (a .noise) (a .body .now)))) lent) r after
+    Gives (recordedAs (judge (framed (content j))) lent) r after → Gives (recordedAs (judge (framed (withoutRealTime (a .body .now)))) lent) r after
 counted j lent after r g = subst (λ (l : List ℕ). Gives (recordedAs (judge (framed l)) lent) r after) (j .before .count-content .ensures .same) g
 
 returns : tie.Need-returns

@@ -45,10 +45,10 @@ sentRowsIn q c = sentRows q (sentIn (sizeOf q) c) (sumIn (sizeOf q) c)
 unfoldable pub kindVerdict : Kind → List ℕ → Verdict
 kindVerdict k m = first (kindTable k m) (recordOf k m)
 
--- A reading without its places.
+-- A reading without its places and noise.
 abbrev pub told : Reading → Judged
 told r = record { outcome = r .outcome; bytes = four (r .bytes) }
 
--- A message that comes to v, its packed bytes at the start of a lent buffer: as reading a record, but for its places.
+-- A message that comes to v, its packed bytes at the start of a lent buffer: as reading a record, but for its places and noise.
 abbrev pub recordedAs : Verdict → List ℕ → Effect Judged
-recordedAs v lent = toldAs told (readInto 0 0 v lent)
+recordedAs v lent = toldAs told (readInto 0 0 v 0 lent)

@@ -1,4 +1,4 @@
--- `put_line` puts the numbers but the last, and that one with its sign.
+-- `put_line` puts the first four numbers, the value with its sign, and the noise.
 use mathlib.Core.Path.{sym}
 use native.Mathlib.Omega.{arith}
 use lib.Seq.{length-take-le}
@@ -12,8 +12,9 @@ slice-aggregate-put-spaced c = sym (length-take-le 4 (c .before .before .before 
 
 returns : tie.Need-returns
 returns c =
-    let v = c .before .before in
-    puts-then (v .before .before .before .before .put-spaced .ensures) (v .put-signed .ensures)
+    let n = c .before .before in
+    let v = n .before .before .before .before in
+    puts-then (v .before .before .before .before .put-spaced .ensures) (puts-then (v .put-signed .ensures) (n .put-number .ensures))
 
 pub put-line-spec : {M : Type 1} → statement M
 put-line-spec =
@@ -21,6 +22,8 @@ put-line-spec =
     (tie.spec
     (λ c. search needs)
     slice-aggregate-put-spaced
+    (λ c κs. search needs)
+    (λ c. search needs)
     (λ c κs. search needs)
     (λ c. search needs)
     (λ c κs. search needs)

@@ -28,7 +28,7 @@ loop-holds c =
 
 loop-again : tie.Need-loop-again Inv-loop μ-loop
 loop-again c =
-    let l = c .before .before .before .before .before .before .before .before .before .before in
+    let l = c .before .before .before .before .before .before .before .before .before .before .before in
     let a = l .before .before .before .args in
     let next = lines-next (a .numbers .now) (a .count) (l .loop .i) (omega arith) in
     let here = line-at (a .numbers .now) (width * l .loop .i) (omega arith) in
@@ -48,6 +48,9 @@ put-lines-spec =
     Inv-loop
     μ-loop
     loop-holds
+    (λ c. omega arith)
+    (λ c. omega arith)
+    (λ c. omega arith)
     (λ c. omega arith)
     (λ c. omega arith)
     (λ c. omega arith)

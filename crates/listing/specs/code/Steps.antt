@@ -4,8 +4,8 @@ use mathlib.Core.List.{List, [], _++_}
 use Prim.Native.Nat.{ℕ, zero, suc, _-_, _≤_}
 use lib.ListN.{length, take, drop, getD}
 use Rattle.answers.specs.code.Numbers.{ofNumber}
-use Rattle.text.specs.Text.{signed, spaced, Puts}
-use Rattle.reading.specs.code.Rooms.{width, valueAmong}
+use Rattle.text.specs.Text.{followed, signed, spaced, Puts}
+use Rattle.reading.specs.code.Rooms.{width, valueAmong, noiseAmong}
 use Rattle.listing.specs.code.Pieces.{leftOf, callsLeft, leastRoom}
 use Rattle.listing.specs.declared.Left.{Left}
 use Rattle.listing.specs.declared.Piece.{Piece}
@@ -16,7 +16,7 @@ Within s place messages = (messages ≤ place) × (place ≤ length s)
 
 -- The line of a report's numbers, the value in two's complement.
 abbrev pub lineOf : List ℕ → List ℕ
-lineOf ns = spaced (take valueAmong ns) ++ signed (ofNumber (getD ns valueAmong 0)) 0x0A
+lineOf ns = spaced (take valueAmong ns) ++ (signed (ofNumber (getD ns valueAmong 0)) 0x20 ++ followed (getD ns noiseAmong 0) 0x0A)
 
 -- The lines of some reports, whose numbers stand one behind the other.
 unfoldable pub linesOf : ℕ → List ℕ → List ℕ

@@ -23,11 +23,14 @@ abbrev pub numbersOf : Report → List ℕ
 numbersOf r = numbersTold (reportOf r)
 
 abbrev pub width : ℕ
-width = 5
+width = 6
 
--- Where the value stands among them.
+-- Where the value stands among them, and the noise behind it.
 abbrev pub valueAmong : ℕ
 valueAmong = 4
+
+abbrev pub noiseAmong : ℕ
+noiseAmong = 5
 
 unfoldable pub flat : List Report → List ℕ
 flat [] = []
@@ -35,7 +38,7 @@ flat (r ∷ rs) = numbersOf r ++ flat rs
 
 -- The reports from just behind the F0H at a place on.
 abbrev pub reportsInside : ℕ → List ℕ → List Report
-reportsInside start rest = scan judge (suc start) (inside start []) rest
+reportsInside start rest = scan judge (suc start) (inside start [] 0) rest
 
 -- As many reports as a room has place for.
 abbrev pub fitting : List ℕ → List Report → List Report
@@ -71,7 +74,8 @@ pub record Makes (s : List ℕ) (place : ℕ) (old new : List ℕ) (r : Listed) 
 
 -- The report that stands at the start of some numbers, as C and Rust take it from there.
 abbrev pub listed : List ℕ → Told
-listed ns = reportAs (getD ns 0 0) (getD ns 1 0) (outcomeAt (getD ns 2 0) (getD ns 3 0) (ofNumber (getD ns valueAmong 0)))
+listed ns =
+    reportAs (getD ns 0 0) (getD ns 1 0) (outcomeAt (getD ns 2 0) (getD ns 3 0) (ofNumber (getD ns valueAmong 0))) (getD ns noiseAmong 0)
 
 -- The reports rs are those that stand one behind the other in a room.
 abbrev pub StandIn : List Report → List ℕ → Type 0

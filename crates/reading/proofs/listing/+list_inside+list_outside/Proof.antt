@@ -16,9 +16,11 @@ use Rattle.streams.specs.Stream.{Report, messageAt}
 use Rattle.streams.specs.code.Scan.{outside, inside}
 use Rattle.frames.proofs.Handing.{outside-none, outside-found, inside-again, inside-left, inside-cut}
 use Rattle.messages.specs.Judge.{judge}
-use Rattle.reading.specs.code.Told.{numbersTold}
+use Rattle.judging.specs.declared.Heard.{Heard}
+use Rattle.judging.specs.code.Heard.{heardFrom}
+use Rattle.reading.specs.code.Told.{endFrom, reportOf, reportFrom, numbersTold}
 use Rattle.reading.specs.code.Rooms.{numbersOf, width, ReadsBack}
-use Rattle.reading.proofs.Spans.{span-length}
+use Rattle.reading.proofs.Spans.{span-length, report-from, end-within}
 use Rattle.reading.proofs.Rooms.{lists-full, lists-none, lists-one, PartHolds, part-fits, lists-on, value-told}
 use Rattle.reading.proofs.listing.list_inside.Reads as list-inside
 use Rattle.reading.proofs.listing.list_inside.Kinds as list-inside-kinds
@@ -26,10 +28,10 @@ use Rattle.reading.proofs.listing.+list_inside+list_outside.Lts-list_in
 use Rattle.reading.proofs.listing.list_outside.Reads as list-outside
 use Rattle.reading.proofs.listing.list_outside.Kinds as list-outside-kinds
 use Rattle.reading.proofs.listing.+list_inside+list_outside.Lts-list_outside as list-outside-lts
-use Rattle.frames.proofs.find_end.Reads as find-end-reads
+use Rattle.judging.proofs.judge_from.Reads as judge-from-reads
 use Rattle.frames.proofs.find_start.Reads as find-start-reads
 use Rattle.reading.proofs.listing.put_report.Reads as put-report-reads
-use Rattle.reading.proofs.walking.report_at.Reads as report-at-reads
+use Rattle.reading.proofs.walking.report_of.Reads as report-of-reads
 use Rattle.reading.proofs.listing.+list_inside+list_outside.{statement}
 use Rattle.reading.proofs.listing.+list_inside+list_outside.Tie.{close}
 
@@ -54,10 +56,10 @@ list-outside-below t = and 2 list-outside-kinds.ps (falls 2 list-outside-kinds.p
 -- What the two call.
 abbrev calls : ℕ → list-inside-lts.Claims
 calls t = (
-  find-end-reads.Asked,
-  find-end-reads.Learnt,
-  report-at-reads.Asked,
-  report-at-reads.Learnt,
+  judge-from-reads.Asked,
+  judge-from-reads.Learnt,
+  report-of-reads.Asked,
+  report-of-reads.Learnt,
   put-report-reads.Asked,
   put-report-reads.Learnt,
   list-inside-below t,
@@ -72,10 +74,13 @@ outer-calls t = (find-start-reads.Asked, find-start-reads.Learnt, list-inside-be
 list-inside-returns : (t : ℕ) → list-inside-lts.Need-returns (calls t) (list-inside-at t) list-inside.Post
 list-inside-returns t c = lists-full _ (c .before .before .before .args .room .now) (c .if1 .taken)
 
-list-inside-report-at-requires : (t : ℕ) → list-inside-lts.Need-report-at-requires (calls t) (list-inside-at t) list-inside.Post
-list-inside-report-at-requires t c κs = (c .before .before .before .before .pre .1, c .find-end .ensures)
+list-inside-report-of-requires : (t : ℕ) → list-inside-lts.Need-report-of-requires (calls t) (list-inside-at t) list-inside.Post
+list-inside-report-of-requires t c κs =
+    let a = c .before .before .before .before .args in
+    let end = ap (λ (h : Heard). endFrom (a .start) (h .span)) (c .judge-from .ensures) in
+    omega (arith, end, end-within (a .rest .now) (a .start), c .before .before .before .before .pre .1)
 
--- Where the report is in the room: the message's start, the bytes behind its F0H, how many of them `find_end` counted, the room as lent and
+-- Where the report is in the room: the message's start, the bytes behind its F0H, how many of them its body has, the room as lent and
 -- with the report in it.
 abbrev Put : ℕ → Type 0
 Put t = list-inside-lts.After-put-report (calls t) (list-inside-at t) list-inside.Post
@@ -88,7 +93,7 @@ module _ {t : ℕ} (c : Put t) where
   rest = c .before .before .before .before .before .before .before .args .rest .now
 
   abbrev counted : ℕ
-  counted = c .before .before .before .find-end .result .length
+  counted = c .before .before .before .judge-from .result .span .length
 
   abbrev room : List ℕ
   room = c .before .before .before .before .before .before .before .args .room .now
@@ -99,20 +104,24 @@ module _ {t : ℕ} (c : Put t) where
   fits : width ≤ length room
   fits = c .before .before .before .before .if1 .left
 
+  heard-so : c .before .before .before .judge-from .result ≡ heardFrom rest
+  heard-so = c .before .before .before .judge-from .ensures
+
   index : counted ≡ length (body rest)
-  index = span-length rest (c .before .before .before .find-end .result) (c .before .before .before .find-end .ensures)
+  index = ap (λ (h : Heard). h .span .length) heard-so ∙ span-length rest
+
+  its-report : c .before .before .report-of .result ≡ reportOf (messageAt judge start rest)
+  its-report = c .before .before .report-of .ensures ∙ ap (reportFrom start) heard-so ∙ report-from rest start
 
   -- The report stands at the start of the room.
   first : filled ≡ numbersOf (messageAt judge start rest) ++ drop width room
-  first =
-      let at = c .before .before .report-at in
-      c .put-report .ensures ∙ ap (λ (l : List ℕ). l ++ drop width room) (ap numbersTold (at .ensures))
+  first = c .put-report .ensures ∙ ap (λ (l : List ℕ). l ++ drop width room) (ap numbersTold its-report)
 
   tells : ReadsBack (messageAt judge start rest)
   tells =
-      let at = c .before .before .report-at in
-      let small : SFits w16 (at .result .outcome .value) = search needs in
-      value-told (messageAt judge start rest) (at .result) (at .ensures) small
+      let r = c .before .before .report-of .result in
+      let small : SFits w16 (r .outcome .value) = search needs in
+      value-told (messageAt judge start rest) r its-report small
 
   -- The reports listed behind it are in the room too.
   in-room : (rs : List Report) (new : List ℕ) (k : ℕ) → PartHolds filled rs new k → 1 + k ≤ length room
@@ -131,7 +140,7 @@ list-inside-returns-3 t c =
     let p = ended .before .before .before .before .before in
     let there : length (body (rest p)) < length (rest p) = omega (arith, index p, ended .before .before .if2 .left) in
     let again = inside-again judge (start p) (rest p) there (rw (index p) at (ended .if3 .taken)) in
-    lists-on (rest p) (start p) (room p) (filled p) (fits p) (first p) (tells p) (counted p) (index p) (λ q. inside q []) _ refl again
+    lists-on (rest p) (start p) (room p) (filled p) (fits p) (first p) (tells p) (counted p) (index p) (λ q. inside q [] 0) _ refl again
     (call .list-inside .last .1 .1 .0) (call .list-inside .result) (call .list-inside .ensures)
 
 list-inside-returns-4 : (t : ℕ) → list-inside-lts.Need-returns-4 (calls t) (list-inside-at t) list-inside.Post
@@ -182,7 +191,7 @@ pub +list-inside+list-outside-spec : {M : Type 1} → statement M
     list-inside.Post
     (list-inside-returns t)
     (λ c κs. search needs)
-    (list-inside-report-at-requires t)
+    (list-inside-report-of-requires t)
     (λ c κs. omega arith)
     (λ c. omega arith)
     (list-inside-returns-2 t)

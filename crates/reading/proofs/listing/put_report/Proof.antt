@@ -33,5 +33,6 @@ put-report-spec =
     (λ c. simp length-set (omega arith))
     (λ c κs. search needs)
     (λ c. simp length-set (omega arith))
+    (λ c. simp length-set (omega arith))
     (λ c. simp length-set)
     returns)
