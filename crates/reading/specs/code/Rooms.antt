@@ -82,7 +82,7 @@ abbrev pub StandIn : List Report → List ℕ → Type 0
 StandIn [] ns = Unit {0}
 StandIn (r ∷ rs) ns = (listed ns ≡ reportOf r) × StandIn rs (drop width ns)
 
--- After every call, the reports that it made are taken from the room as they are, value included.
+-- After every call, the reports that it made are taken from the room as they are, value and noise included.
 abbrev pub RoomTells : Type 0
 RoomTells = (s : List ℕ) (place : ℕ) (old new : List ℕ) (r : Listed) → Makes s place old new r → StandIn (made s place old) new
 
