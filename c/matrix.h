@@ -1,4 +1,5 @@
-/* Oberheim Matrix-1000 and Matrix-6R system exclusive dumps: reading, testing, editing and writing.
+/* Oberheim Matrix-1000 and Matrix-6R system exclusive dumps: reading, testing, editing and writing, and
+ * the edits that turn one patch into another.
  *
  * The face for C and C++ of a library that is proved. The library is libexports.a, which
  * `rt staticlib exports` makes in the repository that this header comes from; `make -C c install`
@@ -40,7 +41,9 @@ enum matrix_answer {
     MATRIX_OUT_OF_RANGE = 11, /* a field out of range; detail: the lowest such byte place; value: what
                                  stands there, or what an edit would store there */
     MATRIX_HALF_USED = 12,    /* a bus half used; detail: the lowest such bus */
-    MATRIX_NO_ROOM = 13       /* the lent output is too short */
+    MATRIX_NO_ROOM = 13,      /* the lent output is too short */
+    MATRIX_OTHER_NAME = 16,   /* the two patches have different names, and no edit reaches a name */
+    MATRIX_NOT_ACCEPTED = 20  /* the list of edits is not accepted */
 };
 
 /* The opcodes: the detail of a message that is read with answer 0. */
@@ -61,6 +64,7 @@ enum matrix_opcode {
 #define MATRIX_MASTER_MESSAGE 351
 #define MATRIX_EDIT_MESSAGE 7
 #define MATRIX_BUS_EDIT_MESSAGE 9
+#define MATRIX_PLAN_MOST 762 /* the most that matrix_plan writes: an edit of every parameter and bus */
 
 /* matrix_reports makes at most this many reports a call, of so many numbers each. */
 #define MATRIX_REPORTS 8
@@ -227,6 +231,26 @@ matrix_outcome matrix_write_bus_edit(uint8_t bus, uint8_t source, uint8_t amount
  * other than 11 and 12.
  * Written: the first 275 bytes of the output for each patch with answer 0. */
 matrix_bank_outcome matrix_write_bank(const uint8_t *ps, size_t ps_len, uint8_t *out, size_t out_len);
+
+/* Plans the edits that turn patch `a` into patch `b`: writes the shortest list of them, ready to send.
+ * A list is messages end to end, each as matrix_write_edit or matrix_write_bus_edit writes it. This one
+ * has an edit for each differing parameter and one for each differing bus, by rising byte place; no
+ * list that matrix_check_plan accepts has fewer, and for equal patches it is empty. A 7, 11 or 12 may
+ * be either patch's; matrix_test_patch tells which.
+ * Answers: 7, 11 and 12 for a, then for b; 16 where both are good and their names differ; 13; 0 with
+ * the bytes written as detail, at most MATRIX_PLAN_MOST.
+ * Written: the list at the start of the output with answer 0. */
+matrix_outcome matrix_plan(const uint8_t *a, size_t a_len, const uint8_t *b, size_t b_len,
+                           uint8_t *out, size_t out_len);
+
+/* Checks a list of edits that is to turn patch `a` into patch `b`, whoever made it. It is accepted
+ * exactly when it is messages end to end, each as matrix_write_edit or matrix_write_bus_edit writes it,
+ * with no real time inside one and nothing between or behind them, every edit is allowed in turn, and
+ * the last patch equals b. So it may have another order than the planner's, and needless edits.
+ * Answers: 7, 11 and 12 for a, then for b; 16 where both are good and their names differ; 20 for any
+ * list that is not accepted; 0. No byte is written. */
+matrix_outcome matrix_check_plan(const uint8_t *a, size_t a_len, const uint8_t *b, size_t b_len,
+                                 const uint8_t *list, size_t list_len);
 
 /* The report of this index in a room that matrix_reports filled. */
 static inline matrix_report matrix_listed_report(const size_t *room, size_t index)
@@ -474,6 +498,24 @@ static inline matrix_bank_outcome matrix_write_bank_(const uint8_t *ps, size_t p
     return matrix_write_bank(matrix_input_(ps, ps_len), ps_len, matrix_output_(out, out_len), out_len);
 }
 #define matrix_write_bank matrix_write_bank_
+
+static inline matrix_outcome matrix_plan_(const uint8_t *a, size_t a_len,
+                                          const uint8_t *b, size_t b_len,
+                                          uint8_t *out, size_t out_len)
+{
+    return matrix_plan(matrix_input_(a, a_len), a_len, matrix_input_(b, b_len), b_len,
+                       matrix_output_(out, out_len), out_len);
+}
+#define matrix_plan matrix_plan_
+
+static inline matrix_outcome matrix_check_plan_(const uint8_t *a, size_t a_len,
+                                                const uint8_t *b, size_t b_len,
+                                                const uint8_t *list, size_t list_len)
+{
+    return matrix_check_plan(matrix_input_(a, a_len), a_len, matrix_input_(b, b_len), b_len,
+                             matrix_input_(list, list_len), list_len);
+}
+#define matrix_check_plan matrix_check_plan_
 
 #ifdef __cplusplus
 }

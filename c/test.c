@@ -242,6 +242,18 @@ static void test_edits(void)
     HOLDS(memcmp(out, bus, sizeof bus) == 0 && out[9] == FILL_BYTE);
 }
 
+/* Two whole patches for the planner and for its checker. */
+static matrix_outcome plan(const uint8_t *a, const uint8_t *b, uint8_t *out, size_t out_len)
+{
+    return matrix_plan(a, MATRIX_PATCH_BYTES, b, MATRIX_PATCH_BYTES, out, out_len);
+}
+
+static matrix_outcome check_plan(const uint8_t *a, const uint8_t *b,
+                                 const uint8_t *list, size_t list_len)
+{
+    return matrix_check_plan(a, MATRIX_PATCH_BYTES, b, MATRIX_PATCH_BYTES, list, list_len);
+}
+
 /* The dump of P with another byte at a place, and the sum that fits it. */
 static void make_dump(uint8_t dump[MATRIX_PATCH_MESSAGE], size_t place, uint8_t byte)
 {
@@ -276,6 +288,10 @@ static void find(size_t place, uint8_t byte, int value)
     HOLDS(found(held.outcome, place, value) && held.value == 0);
     matrix_bank_outcome written = matrix_write_bank(bank, sizeof bank, out, sizeof out);
     HOLDS(found(written.outcome, place, value) && written.place == 1);
+    HOLDS(found(plan(p, bank, out, sizeof out), place, value));
+    HOLDS(found(plan(bank, p, out, sizeof out), place, value));
+    HOLDS(found(check_plan(p, bank, NULL, 0), place, value));
+    HOLDS(found(check_plan(bank, p, NULL, 0), place, value));
     HOLDS(p[place] == byte && all_are(out, 0, sizeof out, FILL_BYTE));
 
     make_dump(dump, place, byte);
@@ -467,6 +483,200 @@ static void test_banks(void)
     HOLDS(bank_gave(matrix_write_bank(patches, bank, out, sizeof out), MATRIX_HALF_USED, 0, 3));
 }
 
+/* P, and P with a detune of -32, another filter and two buses; the list from one to the other. */
+static void make_pair(uint8_t a[MATRIX_PATCH_BYTES], uint8_t b[MATRIX_PATCH_BYTES])
+{
+    make_p(a);
+    make_p(b);
+    b[19] = 0xE0;
+    b[26] = 127;
+    b[105] = 0xFF; /* an amount alone */
+    b[131] = 0x14;
+    b[132] = 0xC0;
+    b[133] = 0x20;
+}
+
+static const uint8_t planned[] = {0xF0, 0x10, 0x06, 0x06, 0x0C, 0x60, 0xF7,
+                                  0xF0, 0x10, 0x06, 0x06, 0x15, 0x7F, 0xF7,
+                                  0xF0, 0x10, 0x06, 0x0B, 0x00, 0x00, 0x7F, 0x00, 0xF7,
+                                  0xF0, 0x10, 0x06, 0x0B, 0x09, 0x14, 0x40, 0x20, 0xF7};
+
+static void test_plans(void)
+{
+    uint8_t a[MATRIX_PATCH_BYTES], b[MATRIX_PATCH_BYTES], out[sizeof planned + 1];
+    uint8_t kept_a[MATRIX_PATCH_BYTES], kept_b[MATRIX_PATCH_BYTES];
+
+    make_pair(a, b);
+    make_pair(kept_a, kept_b);
+    memset(out, FILL_BYTE, sizeof out);
+    for (size_t room = 0; room < sizeof planned; room++)
+        HOLDS(gave(plan(a, b, out, room), MATRIX_NO_ROOM, 0));
+    HOLDS(all_are(out, 0, sizeof out, FILL_BYTE));
+    HOLDS(done(plan(a, b, out, sizeof planned), sizeof planned));
+    HOLDS(memcmp(out, planned, sizeof planned) == 0 && out[sizeof planned] == FILL_BYTE);
+    memset(out, FILL_BYTE, sizeof out);
+    HOLDS(done(plan(a, b, out, sizeof out), sizeof planned));
+    HOLDS(memcmp(out, planned, sizeof planned) == 0 && out[sizeof planned] == FILL_BYTE);
+    HOLDS(done(check_plan(a, b, planned, sizeof planned), 0));
+
+    /* Equal patches, two of them and one lent twice. */
+    memset(out, FILL_BYTE, sizeof out);
+    HOLDS(done(plan(b, kept_b, out, sizeof out), 0) && done(plan(a, a, out, 0), 0));
+    HOLDS(done(check_plan(b, kept_b, NULL, 0), 0) && done(check_plan(a, a, NULL, 0), 0));
+    HOLDS(all_are(out, 0, sizeof out, FILL_BYTE));
+    HOLDS(memcmp(a, kept_a, sizeof a) == 0 && memcmp(b, kept_b, sizeof b) == 0);
+}
+
+/* Every parameter from its least value to its greatest, and every bus: the longest list. */
+static void test_longest_plan(void)
+{
+    uint8_t a[MATRIX_PATCH_BYTES], b[MATRIX_PATCH_BYTES], out[MATRIX_PLAN_MOST + 1];
+    size_t count = 0, next = 0;
+
+    make_p(a);
+    make_p(b);
+    for (uint8_t place = 8; place < 104; place++) {
+        matrix_range range = matrix_range_of(matrix_parameter_of(place));
+        a[place] = (uint8_t)range.least;
+        b[place] = (uint8_t)range.greatest;
+    }
+    for (size_t bus = 104; bus < MATRIX_PATCH_BYTES; bus += 3) {
+        b[bus] = 20;
+        b[bus + 1] = 0xC0;
+        b[bus + 2] = 32;
+    }
+    memset(out, FILL_BYTE, sizeof out);
+    HOLDS(gave(plan(a, b, out, MATRIX_PLAN_MOST - 1), MATRIX_NO_ROOM, 0));
+    HOLDS(all_are(out, 0, sizeof out, FILL_BYTE));
+    HOLDS(done(plan(a, b, out, sizeof out), MATRIX_PLAN_MOST));
+    HOLDS(out[MATRIX_PLAN_MOST] == FILL_BYTE);
+    HOLDS(done(check_plan(a, b, out, MATRIX_PLAN_MOST), 0));
+    HOLDS(done(plan(b, a, out, sizeof out), MATRIX_PLAN_MOST));
+    HOLDS(done(check_plan(b, a, out, MATRIX_PLAN_MOST), 0));
+
+    /* Message by message it does what the checker says. */
+    while (next < MATRIX_PLAN_MOST) {
+        matrix_reading r = matrix_read(out, MATRIX_PLAN_MOST, next, NULL, 0);
+        HOLDS(r.report.start == next && r.report.outcome.answer == MATRIX_DONE);
+        const uint8_t *e = r.bytes;
+        HOLDS(done(r.report.outcome.detail == MATRIX_OPCODE_EDIT
+                       ? matrix_apply_edit(b, sizeof b, e[0], e[1])
+                       : matrix_apply_bus_edit(b, sizeof b, e[0], e[1], e[2], e[3]), 0));
+        next = r.report.end;
+        count++;
+    }
+    HOLDS(count == 96 + 10 && memcmp(a, b, sizeof a) == 0);
+}
+
+/* The first refusal is given: 7, 11 and 12 of a, those of b, 16, then 13 or 20. */
+static void test_refused_plans(void)
+{
+    static const uint8_t cut[] = {0xF0};
+    const size_t whole = MATRIX_PATCH_BYTES;
+    uint8_t a[MATRIX_PATCH_BYTES], b[MATRIX_PATCH_BYTES], out[sizeof planned];
+
+    make_pair(a, b);
+    memset(out, FILL_BYTE, sizeof out);
+    HOLDS(gave(plan(a, b, out, 1), MATRIX_NO_ROOM, 0));
+    HOLDS(gave(check_plan(a, b, cut, 1), MATRIX_NOT_ACCEPTED, 0));
+    b[0] = 1;
+    HOLDS(gave(plan(a, b, out, 1), MATRIX_OTHER_NAME, 0));
+    HOLDS(gave(plan(a, b, out, sizeof out), MATRIX_OTHER_NAME, 0));
+    HOLDS(gave(check_plan(a, b, cut, 1), MATRIX_OTHER_NAME, 0));
+    HOLDS(gave(check_plan(a, b, planned, sizeof planned), MATRIX_OTHER_NAME, 0));
+    b[0] = 0;
+    b[7] = 63;
+    HOLDS(gave(plan(a, b, out, sizeof out), MATRIX_OTHER_NAME, 0));
+    HOLDS(gave(check_plan(b, a, NULL, 0), MATRIX_OTHER_NAME, 0));
+
+    b[130] = 1;
+    HOLDS(gave(plan(a, b, out, 1), MATRIX_HALF_USED, 8));
+    HOLDS(gave(check_plan(a, b, cut, 1), MATRIX_HALF_USED, 8));
+    b[105] = 0xBF;
+    HOLDS(found(plan(a, b, out, 1), 105, -65) && found(check_plan(a, b, cut, 1), 105, -65));
+    HOLDS(gave(matrix_plan(a, whole, b, whole - 1, out, 1), MATRIX_WRONG_LENGTH, 0));
+    HOLDS(gave(matrix_check_plan(a, whole, b, whole - 1, cut, 1), MATRIX_WRONG_LENGTH, 0));
+
+    a[104] = 1;
+    HOLDS(gave(plan(a, b, out, 1), MATRIX_HALF_USED, 0));
+    HOLDS(gave(check_plan(a, b, cut, 1), MATRIX_HALF_USED, 0));
+    HOLDS(gave(matrix_plan(a, whole, b, whole - 1, out, 1), MATRIX_HALF_USED, 0));
+    HOLDS(gave(matrix_check_plan(a, whole, b, whole - 1, cut, 1), MATRIX_HALF_USED, 0));
+    a[19] = 0xDF;
+    HOLDS(found(plan(a, b, out, 1), 19, -33) && found(check_plan(a, b, cut, 1), 19, -33));
+    HOLDS(found(matrix_plan(a, whole, b, whole - 1, out, 1), 19, -33));
+    HOLDS(found(matrix_check_plan(a, whole, b, whole - 1, cut, 1), 19, -33));
+    HOLDS(gave(matrix_plan(a, whole - 1, b, whole, out, 1), MATRIX_WRONG_LENGTH, 0));
+    HOLDS(gave(matrix_check_plan(a, whole - 1, b, whole, cut, 1), MATRIX_WRONG_LENGTH, 0));
+    HOLDS(all_are(out, 0, sizeof out, FILL_BYTE));
+}
+
+/* Bytes, and others behind them; gives how many there are. */
+static size_t join(uint8_t *list, const uint8_t *bytes, size_t length,
+                   const uint8_t *behind, size_t behind_len)
+{
+    memcpy(list, bytes, length);
+    memcpy(list + length, behind, behind_len);
+    return length + behind_len;
+}
+
+/* Accepted is a right list, whoever made it, and no other. */
+static void test_checked_plans(void)
+{
+    static const uint8_t needless[] = {0xF0, 0x10, 0x06, 0x06, 0x15, 0x01, 0xF7};
+    static const uint8_t none_such[] = {0xF0, 0x10, 0x06, 0x06, 0x27, 0x00, 0xF7};
+    static const uint8_t too_wide[] = {0xF0, 0x10, 0x06, 0x06, 0x00, 0x40, 0xF7};
+    static const uint8_t half[] = {0xF0, 0x10, 0x06, 0x0B, 0x09, 0x14, 0x00, 0x00, 0xF7};
+    const size_t edits = 2 * MATRIX_EDIT_MESSAGE, whole = sizeof planned;
+    uint8_t a[MATRIX_PATCH_BYTES], b[MATRIX_PATCH_BYTES], list[sizeof planned + MATRIX_PATCH_MESSAGE];
+    uint8_t kept_a[MATRIX_PATCH_BYTES], kept_b[MATRIX_PATCH_BYTES], dump[MATRIX_PATCH_MESSAGE];
+
+    make_pair(a, b);
+    make_pair(kept_a, kept_b);
+
+    /* The buses first; a needless edit, which the list makes up for only if it stands before it; all
+     * twice. */
+    size_t length = join(list, planned + edits, whole - edits, planned, edits);
+    HOLDS(length == whole && memcmp(list, planned, whole) != 0);
+    HOLDS(done(check_plan(a, b, list, length), 0));
+    length = join(list, needless, sizeof needless, planned, whole);
+    HOLDS(done(check_plan(a, b, list, length), 0));
+    length = join(list, planned, whole, needless, sizeof needless);
+    HOLDS(gave(check_plan(a, b, list, length), MATRIX_NOT_ACCEPTED, 0));
+    length = join(list, planned, whole, planned, whole);
+    HOLDS(done(check_plan(a, b, list, length), 0));
+
+    /* Every cut, at the end of a message too, and every byte left out. */
+    for (size_t i = 0; i < whole; i++) {
+        HOLDS(gave(check_plan(a, b, planned, i), MATRIX_NOT_ACCEPTED, 0));
+        length = join(list, planned, i, planned + i + 1, whole - i - 1);
+        HOLDS(gave(check_plan(a, b, list, length), MATRIX_NOT_ACCEPTED, 0));
+    }
+
+    /* Real time inside messages, between, before and behind them. */
+    for (size_t i = 0; i <= whole; i++) {
+        list[i] = 0xFE;
+        memcpy(list, planned, i);
+        memcpy(list + i + 1, planned + i, whole - i);
+        HOLDS(gave(check_plan(a, b, list, whole + 1), MATRIX_NOT_ACCEPTED, 0));
+    }
+
+    /* Edits that are refused, though one behind would put it right; and another kind of message. */
+    length = join(list, none_such, sizeof none_such, planned, whole);
+    HOLDS(gave(check_plan(a, b, list, length), MATRIX_NOT_ACCEPTED, 0));
+    length = join(list, too_wide, sizeof too_wide, planned, whole);
+    HOLDS(gave(check_plan(a, b, list, length), MATRIX_NOT_ACCEPTED, 0));
+    length = join(list, half, sizeof half, planned, whole);
+    HOLDS(gave(check_plan(a, b, list, length), MATRIX_NOT_ACCEPTED, 0));
+    HOLDS(done(matrix_write_edit_buffer(b, sizeof b, dump, sizeof dump), sizeof dump));
+    HOLDS(gave(check_plan(a, b, dump, sizeof dump), MATRIX_NOT_ACCEPTED, 0));
+    length = join(list, planned, whole, dump, sizeof dump);
+    HOLDS(gave(check_plan(a, b, list, length), MATRIX_NOT_ACCEPTED, 0));
+    HOLDS(gave(check_plan(a, b, NULL, 0), MATRIX_NOT_ACCEPTED, 0));
+    HOLDS(gave(check_plan(b, a, planned, whole), MATRIX_NOT_ACCEPTED, 0));
+    HOLDS(memcmp(a, kept_a, sizeof a) == 0 && memcmp(b, kept_b, sizeof b) == 0);
+}
+
 /* An empty slice at NULL is an empty slice. */
 static void test_null(void)
 {
@@ -498,6 +708,12 @@ static void test_null(void)
     HOLDS(gave(matrix_write_bus_edit(0, 0, 0, 0, NULL, 0), MATRIX_NO_ROOM, 0));
     HOLDS(bank_gave(matrix_write_bank(NULL, 0, NULL, 0), MATRIX_DONE, 0, 0));
     HOLDS(bank_gave(matrix_write_bank(NULL, 0, one, 1), MATRIX_DONE, 0, 0));
+    HOLDS(gave(matrix_plan(NULL, 0, NULL, 0, NULL, 0), MATRIX_WRONG_LENGTH, 0));
+    HOLDS(gave(matrix_plan(p, sizeof p, NULL, 0, one, 1), MATRIX_WRONG_LENGTH, 0));
+    HOLDS(done(matrix_plan(p, sizeof p, p, sizeof p, NULL, 0), 0));
+    HOLDS(gave(matrix_check_plan(NULL, 0, NULL, 0, NULL, 0), MATRIX_WRONG_LENGTH, 0));
+    HOLDS(gave(matrix_check_plan(p, sizeof p, NULL, 0, one, 1), MATRIX_WRONG_LENGTH, 0));
+    HOLDS(done(matrix_check_plan(p, sizeof p, p, sizeof p, NULL, 0), 0));
     HOLDS(one[0] == FILL_BYTE && done(matrix_test_patch(p, sizeof p), 0) && all_are(p, 0, 76, 0));
 
     /* Through a pointer to a function too. */
@@ -518,6 +734,10 @@ int main(void)
     test_values();
     test_writing();
     test_banks();
+    test_plans();
+    test_longest_plan();
+    test_refused_plans();
+    test_checked_plans();
     test_null();
     printf("c: %u checks hold\n", checks);
     return EXIT_SUCCESS;

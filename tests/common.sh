@@ -6,6 +6,7 @@ export CARGO_TARGET_DIR="${CARGO_TARGET_DIR:-$PWD/build/cargo}"
 
 # The programs' crates.
 listing_program=listing_main
+plan_program=plan_main
 table_program=table_main
 cursor_program=cursor_main
 
@@ -19,7 +20,7 @@ fail() {
 }
 
 # Proves and builds programs; what rt said is in $said. rt takes a program's stamp for the program, so one that is gone loses its stamp.
-# Two rt in one folder would read each other's results, so each waits for the other, as in ./listing.
+# Two rt in one folder would read each other's results, so each waits for the other, as in desk/common.sh.
 build_programs() { # CRATE...
     local crate
     for crate; do
@@ -53,7 +54,7 @@ find_streams() {
 # Holds what was printed against what is expected, which must not be empty.
 same() { # EXPECTED PRINTED OF-WHAT
     [ -s "$1" ] || fail "nothing is expected of $3"
-    cmp -s "$1" "$2" || { diff "$1" "$2" | head -n 10 >&2; fail "what was printed of $3 is not what is expected"; }
+    cmp -s "$1" "$2" || { diff "$1" "$2" | head -n 10 >&2 || true; fail "what was printed of $3 is not what is expected"; }
 }
 
 # What a fresh clone has: all but what .gitignore names.

@@ -5,8 +5,9 @@ use std::hint::black_box;
 
 use compare::ffi::{self, A_CALL};
 use compare::word;
+use reference::streams::plans::{self, Pair};
 use reference::streams::{inputs, Random};
-use reference::{parameter_of, BANK_PATCHES, PATCH_LENGTH};
+use reference::{parameter_of, BANK_PATCHES, LONGEST_PLAN, PATCH_LENGTH};
 
 /// A job in both ways.
 pub struct Job {
@@ -27,8 +28,10 @@ const NOISE: usize = 1 << 20;
 const STARTS: usize = 1 << 14;
 /// How many patches are tested and edits are applied in a pass.
 const MANY: usize = 100;
+/// How many edits make a patch another in every parameter and every bus.
+const PARTS: usize = 96 + 10;
 
-pub fn all() -> [Job; 11] {
+pub fn all() -> [Job; 13] {
     let mut random = Random::new(SEED);
     let bank = good_patches(&mut random, BANK_PATCHES);
     let banks: Vec<u8> = bank_dumps(&bank).into_iter().cycle().take(BANKS).collect();
@@ -42,6 +45,7 @@ pub fn all() -> [Job; 11] {
         .map(|_| inputs::good_bus_edit(&mut random))
         .collect();
     let patch = inputs::good_patch(&mut random);
+    let apart = plans::all_apart(&mut random);
     [
         reports("reports-banks", banks.clone()),
         reports("reports-sensing-16", seldom),
@@ -54,6 +58,8 @@ pub fn all() -> [Job; 11] {
         write_bank(bank),
         apply_edits(patch, edits),
         apply_bus_edits(patch, bus_edits),
+        plan(apart.clone()),
+        check_plan(apart),
     ]
 }
 
@@ -269,6 +275,50 @@ fn apply_bus_edits(mut patch: [u8; PATCH_LENGTH], edits: Vec<[u8; 4]>) -> Job {
                 add(all, plain(applied))
             });
             sum(all, patch)
+        }),
+    }
+}
+
+/// The list for two patches that differ in all 96 parameters and all ten buses.
+fn plan([a, b]: Pair) -> Job {
+    let [other_a, other_b] = [a.clone(), b.clone()];
+    let (mut out, mut other_out) = ([0; LONGEST_PLAN], [0; LONGEST_PLAN]);
+    Job {
+        name: "plan",
+        amount: PARTS,
+        unit: "million edits/s",
+        library: Box::new(move || {
+            let planned = ffi::plan(black_box(&a), black_box(&b), black_box(&mut out));
+            library(planned) ^ usize::from(out[LONGEST_PLAN - 2])
+        }),
+        plain: Box::new(move || {
+            let (a, b) = (black_box(&other_a), black_box(&other_b));
+            let planned = reference::plan(a, b, black_box(&mut other_out));
+            plain(planned) ^ usize::from(other_out[LONGEST_PLAN - 2])
+        }),
+    }
+}
+
+/// The same list, checked.
+fn check_plan([a, b]: Pair) -> Job {
+    let mut list = [0; LONGEST_PLAN];
+    let planned = reference::plan(&a, &b, &mut list);
+    assert_eq!(planned.detail, LONGEST_PLAN, "all parts differ");
+    let [other_a, other_b] = [a.clone(), b.clone()];
+    Job {
+        name: "check-plan",
+        amount: PARTS,
+        unit: "million edits/s",
+        library: Box::new(move || {
+            library(ffi::check_plan(
+                black_box(&a),
+                black_box(&b),
+                black_box(&list),
+            ))
+        }),
+        plain: Box::new(move || {
+            let (a, b) = (black_box(&other_a), black_box(&other_b));
+            plain(reference::check_plan(a, b, black_box(&list)))
         }),
     }
 }

@@ -8,7 +8,7 @@ use reference::{reports, BANK_PATCHES, NAME_LENGTH, PATCH_LENGTH};
 use crate::lent::{Call, Lent};
 
 /// A length around the needed one: mostly enough, often exact or within four, sometimes any.
-fn around(random: &mut Random, needed: usize) -> usize {
+pub fn around(random: &mut Random, needed: usize) -> usize {
     match random.below(8) {
         0 => needed.saturating_sub(random.within(1..=4)),
         1 => random.below(needed + 1),
@@ -19,13 +19,14 @@ fn around(random: &mut Random, needed: usize) -> usize {
 }
 
 /// A call that lends nothing.
-fn call(random: &mut Random) -> Call {
+pub fn call(random: &mut Random) -> Call {
     Call {
         first: Lent::filled(random, 0),
         second: Lent::filled(random, 0),
         room: Lent::filled(random, 0),
         place: 0,
         bytes: [0; 4],
+        third: Lent::filled(random, 0),
     }
 }
 
@@ -271,7 +272,7 @@ pub fn every_amount(random: &mut Random, number: usize) -> Call {
 }
 
 /// An edit as a message.
-fn sent(opcode: u8, edit: &[u8]) -> Vec<u8> {
+pub fn sent(opcode: u8, edit: &[u8]) -> Vec<u8> {
     [&[0xF0, 0x10, 0x06, opcode], edit, &[0xF7]].concat()
 }
 

@@ -60,6 +60,7 @@ fn lent(random: &mut Random, bytes: &[u8]) -> Call {
         room: Lent::filled(random, A_CALL * EMPTY.len()),
         place: 0,
         bytes: [random.byte_within(0..=9), 1, random.byte_within(0..=127), 1],
+        third: Lent::filled(random, 0),
     }
 }
 

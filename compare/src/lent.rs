@@ -87,8 +87,10 @@ impl fmt::Debug for Lent<usize> {
 pub struct Call {
     /// What the routine reads first: the input, patch, bank or master.
     pub first: Lent<u8>,
-    /// What it reads or writes next: the buffer, output or name.
+    /// What it reads or writes next: the buffer, output, name or second patch.
     pub second: Lent<u8>,
+    /// What it reads or writes behind two patches: the list or the output.
+    pub third: Lent<u8>,
     /// Where reports go.
     pub room: Lent<usize>,
     /// The place to walk from.
@@ -101,6 +103,7 @@ impl fmt::Display for Call {
     fn fmt(&self, f: &mut fmt::Formatter<'_>) -> fmt::Result {
         writeln!(f, "    first   {:?}", self.first)?;
         writeln!(f, "    second  {:?}", self.second)?;
+        writeln!(f, "    third   {:?}", self.third)?;
         writeln!(f, "    room    {:?}", self.room)?;
         write!(f, "    place {}, bytes {:02X?}", self.place, self.bytes)
     }

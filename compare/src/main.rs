@@ -12,6 +12,7 @@ mod calls;
 mod found;
 mod lent;
 mod long;
+mod pairs;
 mod routines;
 mod slips;
 mod stack;

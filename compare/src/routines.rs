@@ -10,6 +10,7 @@ use reference::streams::Random;
 use crate::calls;
 use crate::found;
 use crate::lent::Call;
+use crate::pairs;
 use crate::slips;
 
 /// Where a routine's inputs come from.
@@ -390,6 +391,22 @@ const WRITE_BANK: Routine = Routine {
     expected: |c| reference::write_bank(c.first.get(), c.second.get_mut()).into(),
 };
 
+const PLAN: Routine = Routine {
+    name: "plan",
+    inputs: "",
+    source: Source::Any(pairs::plan),
+    library: |c| ffi::plan(c.first.get(), c.second.get(), c.third.get_mut()).into(),
+    expected: |c| reference::plan(c.first.get(), c.second.get(), c.third.get_mut()).into(),
+};
+
+const CHECK_PLAN: Routine = Routine {
+    name: "check_plan",
+    inputs: "",
+    source: Source::Any(pairs::check),
+    library: |c| ffi::check_plan(c.first.get(), c.second.get(), c.third.get()).into(),
+    expected: |c| reference::check_plan(c.first.get(), c.second.get(), c.third.get()).into(),
+};
+
 /// What the inputs are called that have real time among all their bytes.
 const NOISY: &str = ", among real time";
 
@@ -405,7 +422,10 @@ const SENT: &str = ", every edit sent";
 const EDITS: &str = ", every parameter and value";
 const BUS_EDITS: &str = ", every bus, source and destination";
 
-pub static ROUTINES: [Routine; 48] = [
+/// What pairs are called that differ in one byte or in none.
+const CHANGED: &str = ", every byte at every place of either patch";
+
+pub static ROUTINES: [Routine; 61] = [
     WALK,
     WALK.on(NOISY, Source::Any(calls::walk_noisy)),
     WALK.on_every(SENT, 2 << 14, calls::every_edit_sent),
@@ -482,4 +502,29 @@ pub static ROUTINES: [Routine; 48] = [
     WRITE_BUS_EDIT.on_every(AMOUNTS, 1 << 16, calls::every_amount),
     WRITE_BANK,
     WRITE_BANK.finding(found::in_bank),
+    PLAN,
+    PLAN.on_every(", every kind of pair", pairs::KINDS, pairs::plan_kind),
+    PLAN.on_every(CHANGED, pairs::CHANGES, pairs::plan_change),
+    PLAN.on_every(", every length of output", pairs::ROOMS, pairs::plan_room),
+    CHECK_PLAN,
+    CHECK_PLAN.on_every(
+        ", every kind of pair and list",
+        pairs::LIST_KINDS,
+        pairs::check_kind,
+    ),
+    CHECK_PLAN.on_every(CHANGED, pairs::CHANGES, pairs::check_change),
+    CHECK_PLAN.on_every(
+        ", every byte at every place, the list as before",
+        pairs::CHANGES,
+        pairs::check_stale,
+    ),
+    CHECK_PLAN.on_every(
+        ", every byte of a list replaced",
+        pairs::REPLACED,
+        pairs::check_replaced,
+    ),
+    CHECK_PLAN.on_every(", a list cut at every byte", pairs::CUTS, pairs::check_cut),
+    CHECK_PLAN.on_every(EDITS, 1 << 16, pairs::check_edit),
+    CHECK_PLAN.on_every(BUS_EDITS, 10 << 16, pairs::check_bus_edit),
+    CHECK_PLAN.on_every(AMOUNTS, 1 << 16, pairs::check_amount),
 ];

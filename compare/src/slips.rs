@@ -63,6 +63,7 @@ fn read(random: &mut Random, stream: &[u8]) -> Call {
         room: Lent::filled(random, 0),
         place: DUMP,
         bytes: [0; 4],
+        third: Lent::filled(random, 0),
     }
 }
 

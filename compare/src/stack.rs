@@ -8,7 +8,7 @@
 
 use std::arch::asm;
 
-use compare::ffi::{A_CALL, EMPTY};
+use compare::ffi::{Reading, A_CALL, EMPTY};
 use reference::reports;
 use reference::streams::{self, Random};
 
@@ -25,6 +25,9 @@ const PAINTS: [u8; 2] = [0xA5, 0x5A];
 const MOST: usize = 1 << 10;
 /// But for the reports: eight of them may be under way at once.
 const MOST_REPORTS: usize = 5 << 10;
+
+/// The words of the largest struct that is too large for registers.
+const LARGEST: usize = size_of::<Reading>() / size_of::<usize>();
 
 /// The packed bytes of a master; no message has more.
 const LONGEST_PACKED: usize = 172;
@@ -130,6 +133,18 @@ entries! {
         let (out, size) = written(&mut c.second);
         [struct_at, ps, length, out, size, 0]
     },
+    plan as matrix_plan: |c, _| {
+        let (a, length) = read(&c.first);
+        let (b, other_length) = read(&c.second);
+        let (out, size) = written(&mut c.third);
+        [a, length, b, other_length, out, size]
+    },
+    check_plan as matrix_check_plan: |c, _| {
+        let (a, length) = read(&c.first);
+        let (b, other_length) = read(&c.second);
+        let (list, size) = read(&c.third);
+        [a, length, b, other_length, list, size]
+    },
 }
 
 /// A slice as C has it, to be read.
@@ -215,6 +230,7 @@ fn deep_calls(seed: u64) -> Vec<Call> {
                 room: Lent::filled(&mut random, A_CALL * EMPTY.len()),
                 place,
                 bytes: [0; 4],
+                third: Lent::filled(&mut random, 0),
             });
         }
     }
@@ -225,8 +241,7 @@ fn deep_calls(seed: u64) -> Vec<Call> {
 fn depth(entry: &Entry, call: &mut Call) -> usize {
     let depths = PAINTS.map(|paint| {
         let mut stack = Stack([paint; SIZE]);
-        // Too large for registers: 40 bytes at most, for a reading.
-        let mut by_memory = [0_usize; 5];
+        let mut by_memory = [0_usize; LARGEST];
         let registers = (entry.registers)(call, by_memory.as_mut_ptr() as usize);
         // SAFETY: the registers are a call's arguments as the library's header has them, the slices
         // are the call's own, and the stack is far larger than what any routine needs.

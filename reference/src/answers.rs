@@ -29,6 +29,10 @@ pub const HALF_USED: u8 = 12;
 /// The lent output is too short.
 pub const TOO_SHORT: u8 = 13;
 // 14 is withdrawn.
+/// The names of two patches differ, and no edit reaches a name.
+pub const OTHER_NAME: u8 = 16;
+/// A list of edits isn't accepted.
+pub const NOT_ACCEPTED: u8 = 20;
 
 /// What a routine answers.
 #[derive(Clone, Copy, Debug, PartialEq, Eq)]

@@ -59,7 +59,8 @@ impl Change {
         Ok(Self { place, stored })
     }
 
-    fn apply(self, patch: &mut Patch) {
+    /// Stores what the edit says. A patch in range stays in range.
+    pub fn apply(self, patch: &mut Patch) {
         patch[self.place] = self.stored;
     }
 }
@@ -87,7 +88,8 @@ impl BusChange {
         Ok(Self { place, stored })
     }
 
-    fn apply(self, patch: &mut Patch) {
+    /// Stores what the edit says. A patch in range, without a bus half used, stays so.
+    pub fn apply(self, patch: &mut Patch) {
         patch[self.place..][..3].copy_from_slice(&self.stored);
     }
 }

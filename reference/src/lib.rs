@@ -19,6 +19,7 @@
 #![forbid(unsafe_code)]
 
 pub mod answers;
+mod desk;
 mod edits;
 mod fields;
 mod frames;
@@ -27,6 +28,7 @@ mod listing;
 mod names;
 pub mod nibbles;
 mod patch;
+mod plans;
 mod reading;
 mod records;
 pub mod streams;
@@ -34,12 +36,14 @@ pub mod table;
 mod writing;
 
 pub use answers::{BankOutcome, Outcome, RangeOutcome, Reading, Report, ValueOutcome};
+pub use desk::plan_files;
 pub use edits::{apply_bus_edit, apply_edit, extend};
 pub use fields::{range_of, value_of};
 pub use frames::is_real_time;
 pub use listing::{listing, LONGEST_INPUT};
 pub use names::{set_name, show_name, NAME_LENGTH};
 pub use patch::test_patch;
+pub use plans::{check_plan, plan, LONGEST_PLAN};
 pub use reading::{read, reports, walk, Reports};
 pub use table::{outside, parameter_of, place_of, PATCH_LENGTH};
 pub use writing::{

@@ -24,7 +24,8 @@ pub fn listing(input: &[u8]) -> Vec<u8> {
     text
 }
 
-fn push_line(text: &mut Vec<u8>, report: &Report) {
+/// Adds the line of a report.
+pub(crate) fn push_line(text: &mut Vec<u8>, report: &Report) {
     push_decimal(text, report.start, b' ');
     push_decimal(text, report.end, b' ');
     push_decimal(text, report.answer.into(), b' ');

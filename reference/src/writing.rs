@@ -100,12 +100,12 @@ fn numbered(number: u8, patch: &[u8]) -> Result<&Patch, Refusal> {
 }
 
 /// The first `length` bytes of a lent output, else 13.
-fn room(out: &mut [u8], length: usize) -> Result<&mut [u8], Refusal> {
+pub(crate) fn room(out: &mut [u8], length: usize) -> Result<&mut [u8], Refusal> {
     out.get_mut(..length).ok_or(Refusal::plain(TOO_SHORT))
 }
 
 /// Puts an edit into the output and gives its length.
-fn put_edit(opcode: u8, body: &[u8], out: &mut [u8]) -> Result<usize, Refusal> {
+pub(crate) fn put_edit(opcode: u8, body: &[u8], out: &mut [u8]) -> Result<usize, Refusal> {
     let message = room(out, ENVELOPE + body.len())?;
     message[..4].copy_from_slice(&[START, OBERHEIM, MATRIX, opcode]);
     message[4..][..body.len()].copy_from_slice(body);

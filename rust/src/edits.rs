@@ -51,6 +51,26 @@ pub struct BusEdit {
     destination: u8,
 }
 
+/// An edit of either kind.
+///
+/// ```
+/// use matrix1000::{Edit, Error, Message, Parameter, Patch, PatchEdit};
+///
+/// let edit = PatchEdit::from(Edit::new(Parameter::MIX, 31)?);
+/// let mut patch = Patch::default();
+/// patch.apply(edit);
+/// assert_eq!(patch.get(Parameter::MIX), 31);
+/// assert_eq!(Message::from(edit).to_vec()?, [0xF0, 0x10, 0x06, 0x06, 20, 31, 0xF7]);
+/// # Ok::<(), Error>(())
+/// ```
+#[derive(Clone, Copy, Debug, PartialEq, Eq, Hash)]
+pub enum PatchEdit {
+    /// Of one field: a remote edit (06H).
+    Parameter(Edit),
+    /// Of one modulation bus: a matrix modulation edit (0BH).
+    Bus(BusEdit),
+}
+
 impl Edit {
     /// An edit that sets a parameter to a value.
     ///
@@ -178,5 +198,17 @@ impl TryFrom<[u8; 4]> for BusEdit {
 
     fn try_from(bytes: [u8; 4]) -> Result<Self, Error> {
         Self::from_bytes(bytes)
+    }
+}
+
+impl From<Edit> for PatchEdit {
+    fn from(edit: Edit) -> Self {
+        Self::Parameter(edit)
+    }
+}
+
+impl From<BusEdit> for PatchEdit {
+    fn from(edit: BusEdit) -> Self {
+        Self::Bus(edit)
     }
 }

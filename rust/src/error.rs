@@ -76,6 +76,16 @@ pub enum Error {
         /// How many there is room for.
         given: usize,
     },
+    /// 16: the two patches have different names, and no edit reaches a name.
+    #[non_exhaustive]
+    OtherName {
+        /// The name of the patch that is to be edited, as text.
+        from: [u8; Patch::NAME_LENGTH],
+        /// The name of the patch that it is to become, as text.
+        to: [u8; Patch::NAME_LENGTH],
+    },
+    /// 20: the list of edits is not accepted.
+    NotAccepted,
 }
 
 /// What has a wrong length, and how many bytes were found.
@@ -130,10 +140,12 @@ pub(crate) enum Bare {
     Number,
     /// 13.
     Room,
+    /// 16.
+    Names,
 }
 
 impl Error {
-    /// The register's number, 1 to 13.
+    /// The register's number: 1 to 13, 16 or 20.
     #[must_use]
     pub const fn number(&self) -> u8 {
         match self {
@@ -150,6 +162,8 @@ impl Error {
             Self::OutOfRange { .. } => 11,
             Self::HalfUsed { .. } => 12,
             Self::NoRoom { .. } => 13,
+            Self::OtherName { .. } => 16,
+            Self::NotAccepted => 20,
         }
     }
 
@@ -202,6 +216,8 @@ impl Error {
             },
             12 => Self::HalfUsed { bus: detail },
             13 => about(Bare::Room),
+            16 => about(Bare::Names),
+            20 => Self::NotAccepted,
             _ => unreachable!("the register has no number {answer}"),
         })
     }
@@ -250,6 +266,18 @@ impl fmt::Display for Error {
             Self::NoRoom { needed, given } => {
                 write!(f, "the output has {given} bytes, and {needed} are needed")
             }
+            Self::OtherName { from, to } => {
+                let [from, to] = [from, to].map(|name| String::from_utf8_lossy(name));
+                write!(
+                    f,
+                    "the two patches have different names, {from:?} and {to:?}, \
+                     and no edit reaches a name"
+                )
+            }
+            Self::NotAccepted => f.write_str(
+                "the list of edits is not accepted: it has something other than allowed edits as \
+                 they are written, or ends in another patch",
+            ),
         }
     }
 }

@@ -205,6 +205,22 @@ mod raw {
             out: *mut u8,
             out_len: usize,
         ) -> BankOutcome;
+        pub unsafe fn matrix_plan(
+            a: *const u8,
+            a_len: usize,
+            b: *const u8,
+            b_len: usize,
+            out: *mut u8,
+            out_len: usize,
+        ) -> Outcome;
+        pub unsafe fn matrix_check_plan(
+            a: *const u8,
+            a_len: usize,
+            b: *const u8,
+            b_len: usize,
+            list: *const u8,
+            list_len: usize,
+        ) -> Outcome;
     }
 }
 
@@ -348,4 +364,36 @@ pub fn write_bus_edit(edit: [u8; 4], out: &mut [u8]) -> Outcome {
 pub fn write_bank(ps: &[u8], out: &mut [u8]) -> BankOutcome {
     // SAFETY: two slices with their own lengths; `out`, which is written, is `&mut`.
     unsafe { raw::matrix_write_bank(ps.as_ptr(), ps.len(), out.as_mut_ptr(), out.len()) }
+}
+
+/// Writes the shortest list of edits that turns patch `a` into patch `b`.
+#[inline]
+pub fn plan(a: &[u8], b: &[u8], out: &mut [u8]) -> Outcome {
+    // SAFETY: three slices with their own lengths; `out`, which is written, is `&mut`.
+    unsafe {
+        raw::matrix_plan(
+            a.as_ptr(),
+            a.len(),
+            b.as_ptr(),
+            b.len(),
+            out.as_mut_ptr(),
+            out.len(),
+        )
+    }
+}
+
+/// Checks a list of edits that is to turn patch `a` into patch `b`.
+#[inline]
+pub fn check_plan(a: &[u8], b: &[u8], list: &[u8]) -> Outcome {
+    // SAFETY: three slices with their own lengths, not written.
+    unsafe {
+        raw::matrix_check_plan(
+            a.as_ptr(),
+            a.len(),
+            b.as_ptr(),
+            b.len(),
+            list.as_ptr(),
+            list.len(),
+        )
+    }
 }

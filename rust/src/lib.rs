@@ -1,4 +1,5 @@
-//! Oberheim Matrix-1000 system exclusive dumps: reading, testing, editing and writing.
+//! Oberheim Matrix-1000 system exclusive dumps: reading, testing, editing and writing, and the edits
+//! that turn one patch into another.
 //!
 //! A safe face of a library that is proved. What a message is, which are refused and why, what a
 //! field may hold and what a dump's bytes are is all decided there. Here only a value outside the range
@@ -25,6 +26,12 @@
 //!         Err(error) => println!("at {}: {error}", found.start),
 //!     }
 //! }
+//!
+//! // The fewest edits from one patch to another of the same name, ready to send.
+//! let mut darker = patch;
+//! darker.set(Parameter::VCF_FREQUENCY, 32)?;
+//! let edits = patch.edits_to(&darker)?;
+//! assert_eq!(edits.as_bytes(), [0xF0, 0x10, 0x06, 0x06, 21, 32, 0xF7]);
 //! # Ok::<(), Error>(())
 //! ```
 
@@ -39,12 +46,14 @@ mod ffi;
 mod message;
 mod parameter;
 mod patch;
+mod plan;
 mod stream;
 
 pub use bank::Bank;
-pub use edits::{BusEdit, Edit};
+pub use edits::{BusEdit, Edit, PatchEdit};
 pub use error::{BankError, Error, Length, NotAllowed};
 pub use message::{to_vec, to_writer, Kind, Master, Message};
 pub use parameter::{Parameter, ParseParameterError};
 pub use patch::{Bus, Patch};
+pub use plan::Edits;
 pub use stream::{messages, report_at, reports, Found, Messages, Report, Reports};

@@ -5,7 +5,7 @@ use std::{fmt, io};
 use crate::error::Bare;
 use crate::ffi;
 use crate::stream::messages;
-use crate::{BusEdit, Edit, Error, Length, NotAllowed, Patch};
+use crate::{BusEdit, Edit, Error, Length, NotAllowed, Patch, PatchEdit};
 
 /// The kinds of message.
 #[derive(Clone, Copy, Debug, PartialEq, Eq, Hash)]
@@ -367,5 +367,14 @@ impl From<Edit> for Message {
 impl From<BusEdit> for Message {
     fn from(edit: BusEdit) -> Self {
         Self::BusEdit(edit)
+    }
+}
+
+impl From<PatchEdit> for Message {
+    fn from(edit: PatchEdit) -> Self {
+        match edit {
+            PatchEdit::Parameter(edit) => Self::Edit(edit),
+            PatchEdit::Bus(edit) => Self::BusEdit(edit),
+        }
     }
 }

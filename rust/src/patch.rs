@@ -5,7 +5,7 @@ use std::ops::RangeInclusive;
 
 use crate::error::Bare;
 use crate::ffi;
-use crate::{BusEdit, Edit, Error, Length, NotAllowed, Parameter};
+use crate::{BusEdit, Edit, Error, Length, NotAllowed, Parameter, PatchEdit};
 
 /// A patch: 134 packed bytes, every field in range and no bus half used.
 ///
@@ -71,10 +71,15 @@ impl Patch {
     /// The name as text: eight characters from space to underscore, those at the end often spaces.
     #[must_use]
     pub fn name(&self) -> String {
+        self.name_text().map(char::from).iter().collect()
+    }
+
+    /// The name as text.
+    pub(crate) fn name_text(&self) -> [u8; Self::NAME_LENGTH] {
         let mut text = [0; Self::NAME_LENGTH];
         let shown = ffi::show_name(&self.0, &mut text);
         debug_assert_eq!(shown.answer, 0, "a tested patch, and room");
-        text.map(char::from).iter().collect()
+        text
     }
 
     /// Sets the name: eight characters from space to underscore, so digits and capitals but no small
@@ -162,17 +167,22 @@ impl Patch {
         Ok(())
     }
 
-    /// Applies a remote edit, which changes one field.
-    pub fn apply(&mut self, edit: Edit) {
-        let [parameter, value] = edit.bytes();
-        let applied = ffi::apply_edit(&mut self.0, parameter, value);
+    /// Applies an edit of either kind. A remote edit changes one field, a matrix modulation edit one
+    /// bus.
+    pub fn apply(&mut self, edit: impl Into<PatchEdit>) {
+        let applied = match edit.into() {
+            PatchEdit::Parameter(edit) => {
+                let [parameter, value] = edit.bytes();
+                ffi::apply_edit(&mut self.0, parameter, value)
+            }
+            PatchEdit::Bus(edit) => ffi::apply_bus_edit(&mut self.0, edit.bytes()),
+        };
         debug_assert_eq!(applied.answer, 0, "a tested edit of a tested patch");
     }
 
     /// Applies a matrix modulation edit, which changes one bus.
     pub fn apply_bus(&mut self, edit: BusEdit) {
-        let applied = ffi::apply_bus_edit(&mut self.0, edit.bytes());
-        debug_assert_eq!(applied.answer, 0, "a tested edit of a tested patch");
+        self.apply(edit);
     }
 }
 

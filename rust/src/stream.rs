@@ -80,6 +80,7 @@ fn refusal(message: &[u8], bare: Bare) -> Error {
             Kind::EditBuffer => NotAllowed::Zero(behind),
         }),
         Bare::Room => unreachable!("the buffer takes every record"),
+        Bare::Names => unreachable!("a message has no second patch"),
     }
 }
 

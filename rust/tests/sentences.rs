@@ -73,6 +73,22 @@ fn of_what_is_handed_in() {
 }
 
 #[test]
+fn of_lists_of_edits() {
+    let patch = Patch::default();
+    let mut bass = patch;
+    bass.set_name("BASS 1  ").unwrap();
+    let names = "the two patches have different names, \"BASS 1  \" and \"@@@@@@@@\", \
+                 and no edit reaches a name";
+    says(bass.edits_to(&patch), names);
+    says(bass.check_edits_to(&patch, &[]), names);
+    says(
+        patch.check_edits_to(&patch, &[0xF0]),
+        "the list of edits is not accepted: it has something other than allowed edits as they are \
+         written, or ends in another patch",
+    );
+}
+
+#[test]
 fn of_every_byte_of_a_patch() {
     let refused = |place| {
         let mut bytes = Patch::default().to_bytes();

@@ -132,7 +132,7 @@ first-number P (r ∷ rows) n b p o a e = go (heard r) (first-number P rows n b 
 
 -- The numbers of refusals: 0 is not among them, nor is 14.
 abbrev pub IsRefusal : ℕ → Type 0
-IsRefusal n = (1 ≤ n) × (n ≤ 13)
+IsRefusal n = (1 ≤ n) × (n ≡ 14 → ⊥)
 
 -- Every row is numbered as a refusal.
 abbrev pub Refusals : List Row → Type 0

@@ -34,6 +34,11 @@ pub const NO_ROOM: u8 = 13;
 
 // 14 is withdrawn.
 
+// Document 02 (v): the two names differ; a list of edits is not accepted.
+pub const OTHER_NAME: u8 = 16;
+
+pub const NOT_ACCEPTED: u8 = 20;
+
 // The greatest number of 64 bits.
 const LAST: usize = 0xFFFF_FFFF_FFFF_FFFF;
 

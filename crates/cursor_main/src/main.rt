@@ -18,15 +18,7 @@ fn put_report(r: Report, room: &mut [u8]) -> usize
     ensures { λ n. ⌜ Puts (line (r .start) (r .end) (r .outcome) (r .noise)) (now (room .entry)) 0 (now (room .exit)) n ⌝ }
     ensures { λ n. ⌜ Counts n (now (room .exit)) ⌝ }
 {
-    let numbers = [
-        r.start,
-        r.end,
-        r.outcome.answer as usize,
-        r.outcome.detail,
-        answers::as_number(r.outcome.value),
-        r.noise,
-    ];
-    listing::put_line(room, 0, numbers)
+    listing::put_report(room, 0, r)
 }
 
 // The line of the bytes that come with a record.

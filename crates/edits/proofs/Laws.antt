@@ -160,7 +160,7 @@ module _ (b s a d : ℕ) (p : List ℕ) (h : b ≤ 9) (l : length p ≡ 134) whe
       let e₁ = out-set fields 0 (105 + 3 * b) (extended a) one e₀ (subst (λ (k : ℕ). inRange k (extended a) ≡ true) k₁ (in₁ .0)) in
       out-set fields 0 (106 + 3 * b) d two e₁ (subst (λ (k : ℕ). inRange k d ≡ true) k₂ (in₂ .0))
 
-bus-stored : (b s a d : ℕ) (p : List ℕ) → first (busRows b s a d ++ patchRows p) (done 0 [] []) ≡ done 0 [] []
+pub bus-stored : (b s a d : ℕ) (p : List ℕ) → first (busRows b s a d ++ patchRows p) (done 0 [] []) ≡ done 0 [] []
     → applyingBus b s a d p ≡ record { result = outcome 0 0; lent = withBus b s a d p }
 unfolding applyingBus
 bus-stored b s a d p e = ap (changed 0 (withBus b s a d p) p) e

@@ -10,13 +10,15 @@ use fields::BytePlace;
 use fields::DESTINATION_AT;
 use fields::FoundPlace;
 use fields::NOT_EXTENDED;
+use fields::PLACES;
 use fields::Parameter;
 use fields::SOURCE_AT;
 ghost use mathlib.Core.Path.{_≡_};
 ghost use Prim.Native.Nat.{_≤_};
 ghost use Rattle.answers.specs.Effect.{Gives, tested};
 ghost use Rattle.edits.specs.Edits.{extended, storedFor, editRows, byteRows, busRows, applying, applyingBus};
-ghost use Rattle.edits.specs.code.Value.{valueRows};
+ghost use Rattle.edits.specs.code.Value.{valueRows, allowedAt};
+ghost use Rattle.edits.specs.code.Storing.{storing, storingBus, Stored};
 
 const LAST_BUS: u8 = BUSES as u8 - 1;
 
@@ -55,6 +57,16 @@ fn test_value(place: BytePlace, parameter: Parameter, value: u8) -> Outcome
         return answers::out_of_range(k, fields::value_at(place, stored));
     }
     answers::done(0)
+}
+
+// The same in one word: the value passes. It says less than `test_value`, and sooner.
+fn allowed(place: BytePlace, parameter: Parameter, value: u8) -> bool
+    ensures { λ r. ⌜ r ≡ allowedAt (place .0) (parameter .0) value ⌝ }
+{
+    if 127 < value {
+        return false;
+    }
+    fields::in_range(place, stored_for(parameter, value))
 }
 
 // The tests of a remote edit: 8, then 11 with its field's place and the value that it would store.
@@ -134,10 +146,45 @@ pub fn apply_bus_edit(p: &mut [u8], bus: u8, source: u8, amount: u8, destination
     if tested.answer != DONE {
         return tested;
     }
+    store_bus_edit(p, bus, source, amount, destination);
+    answers::done(0)
+}
+
+// Stores a remote edit in a lent patch whose fields are known to pass, which are not tested again: `true` where it is stored; `false` where
+// its own tests refuse it or the patch has not 134 bytes, and every byte keeps its value.
+pub fn store_edit(p: &mut [u8], parameter: Parameter, value: u8) -> bool
+    ensures { λ r. ⌜ Stored (storing (parameter .0) value (now (p .entry))) r (now (p .exit)) ⌝ }
+{
+    let FoundPlace::At(place) = fields::place_of(parameter) else {
+        return false;
+    };
+    if !allowed(place, parameter, value) {
+        return false;
+    }
+    if p.len() != PLACES {
+        return false;
+    }
+    let at = place.0 as usize;
+    let stored = stored_for(parameter, value);
+    p[at] = stored;
+    true
+}
+
+// Stores a matrix modulation edit likewise.
+pub fn store_bus_edit(p: &mut [u8], bus: u8, source: u8, amount: u8, destination: u8) -> bool
+    ensures { λ r. ⌜ Stored (storingBus bus source amount destination (now (p .entry))) r (now (p .exit)) ⌝ }
+{
+    let bus_edit = test_bus_edit(bus, source, amount, destination);
+    if bus_edit.answer != DONE {
+        return false;
+    }
+    if p.len() != PLACES {
+        return false;
+    }
     let b = bus as usize;
     let stored = extend(amount);
     p[SOURCE_AT + 3 * b] = source;
     p[AMOUNT_AT + 3 * b] = stored;
     p[DESTINATION_AT + 3 * b] = destination;
-    answers::done(0)
+    true
 }

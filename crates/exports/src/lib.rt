@@ -1,5 +1,5 @@
-// The library for C and Rust to link: walk, read, reports, test, lookups, ranges and values of parameters, names, both edits, all writers and
-// the bank, each the routine itself with its own contract. A slice passes as a pointer and a length; a struct is returned by value, laid out
+// The library for C and Rust to link: walk, read, reports, test, lookups, ranges and values of parameters, names, both edits, all writers,
+// the bank, and the planner with its checker, each the routine itself with its own contract. A slice passes as a pointer and a length; a struct is returned by value, laid out
 // as C lays it out.
 use answers::Outcome;
 use fields::BytePlace;
@@ -23,6 +23,8 @@ ghost use Rattle.fields.specs.Fields.{placeOf, parameterOf};
 ghost use Rattle.fields.specs.Parameters.{ranging};
 ghost use Rattle.names.specs.Names.{naming, showing};
 ghost use Rattle.patch.specs.Patch.{patchRows, holding};
+ghost use Rattle.edit_lists.specs.Plan.{planning};
+ghost use Rattle.edit_lists.specs.Check.{checking};
 ghost use Rattle.reading.specs.code.Rooms.{Makes};
 ghost use Rattle.reading.specs.code.Told.{walked, reads};
 ghost use Rattle.writing.specs.Writing.{writing, writingBank};
@@ -206,4 +208,20 @@ pub extern "C" fn matrix_write_bank(ps: &[u8], out: &mut [u8]) -> BankOutcome
     ensures { λ r. ⌜ Gives (writingBank (now (ps .entry)) (now (out .entry))) r (now (out .exit)) ⌝ }
 {
     writing::write_bank(ps, out)
+}
+
+// Writes the shortest list of edits that turns one patch into another.
+#[no_mangle]
+pub extern "C" fn matrix_plan(a: &[u8], b: &[u8], out: &mut [u8]) -> Outcome
+    ensures { λ r. ⌜ Gives (planning (now (a .entry)) (now (b .entry)) (now (out .entry))) r (now (out .exit)) ⌝ }
+{
+    planner::plan(a, b, out)
+}
+
+// Checks a list of edits that is to turn one patch into another.
+#[no_mangle]
+pub extern "C" fn matrix_check_plan(a: &[u8], b: &[u8], list: &[u8]) -> Outcome
+    ensures { λ r. ⌜ r ≡ checking (now (a .entry)) (now (b .entry)) (now (list .entry)) ⌝ }
+{
+    checker::check_plan(a, b, list)
 }

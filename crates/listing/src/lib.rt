@@ -4,12 +4,13 @@
 use reading::listing::NOISE;
 use reading::listing::VALUE;
 use reading::listing::WIDTH;
+use reading::walking::Report;
 ghost use Prim.Native.Nat.{_*_, _≤_};
 ghost use lib.ListN.{length};
 ghost use Rattle.io.specs.Counts.{Counts};
 ghost use Rattle.text.specs.Text.{Puts};
 ghost use Rattle.reading.specs.code.Rooms.{width};
-ghost use Rattle.listing.specs.Listing.{total, tooLong};
+ghost use Rattle.listing.specs.Listing.{line, total, tooLong};
 ghost use Rattle.listing.specs.code.Pieces.{GivesPiece};
 ghost use Rattle.listing.specs.code.Steps.{Within, lineOf, linesOf, Adds};
 
@@ -70,6 +71,21 @@ pub fn put_line(room: &mut [u8], at: usize, numbers: [usize; WIDTH]) -> usize
     let end = text::put_spaced(room, at, &numbers[..VALUE]);
     let behind = text::put_signed(room, end, numbers[VALUE], b' ');
     text::put_number(room, behind, numbers[NOISE], b'\n')
+}
+
+// The line of a report as the walk tells it.
+pub fn put_report(room: &mut [u8], at: usize, r: Report) -> usize
+    ensures { λ n. ⌜ Puts (line (r .start) (r .end) (r .outcome) (r .noise)) (now (room .entry)) at (now (room .exit)) n ⌝ }
+{
+    let numbers = [
+        r.start,
+        r.end,
+        r.outcome.answer as usize,
+        r.outcome.detail,
+        answers::as_number(r.outcome.value),
+        r.noise,
+    ];
+    put_line(room, at, numbers)
 }
 
 // The lines of `count` reports, whose numbers stand one behind the other.

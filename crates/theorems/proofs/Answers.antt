@@ -44,6 +44,12 @@ use Rattle.reading.specs.code.Told.{reportOr, walked, reads}
 use Rattle.reading.specs.code.Rooms.{width, most, made as madeIn}
 use Rattle.writing.specs.declared.BankOutcome.{BankOutcome}
 use Rattle.writing.specs.Writing.{writingBank, bankBytes, firstBad, orLater, unlessBad}
+use Rattle.pairs.specs.Pairs.{pairRows}
+use Rattle.pairs.proofs.Pair.{pair-refusals}
+use Rattle.edit_lists.specs.Lists.{listBytes}
+use Rattle.edit_lists.specs.Plan.{plan as listFor, planning}
+use Rattle.edit_lists.specs.Check.{checking}
+use Rattle.edit_lists.proofs.Answers.{listRow, check-refusals}
 use Rattle.theorems.specs.Answers.{fromStart, found, complete, recordIn, opcodeIn, walkRows, thenRoom}
 use Rattle.theorems.specs.Answers.{Answered, patchesRows, bankTable, patchAt, PlaceOf, refused-patch, no-patch, Demand1}
 
@@ -473,7 +479,7 @@ made-all P s place room a =
     rw (← (reports-of judge s .by-states place)) (all-take P most (take (length room / width) from) (all-take P (length room / width) from a))
 
 pub demand-1 : Demand1
-unfolding showing packing unpacking judge
+unfolding showing packing unpacking judge checking planning
 demand-1 = record {
   walk = λ s place.
       let l = found s place in
@@ -511,6 +517,11 @@ demand-1 = record {
       record { decides = written-decides (givenRows k b p) m out (given-refusals k b p); keeps = written-keeps (givenRows k b p) m out (given-refusals k b p) };
   bank = bank-answered;
   bank-place = bank-place;
+  test-pair = λ a b. decides (pairRows a b) 0 [] [] _ (pair-refusals a b) refl;
+  check-plan = λ a b list. decides (pairRows a b ++ listRow a b list) 0 [] [] _ (check-refusals a b list) refl;
+  plan = λ a b out.
+      let list = listBytes (listFor a b) in
+      record { decides = written-decides (pairRows a b) list out (pair-refusals a b); keeps = written-keeps (pairRows a b) list out (pair-refusals a b) };
   packs = λ sent out.
       let a : Refusals (nibbleRows sent) = (omega arith, omega arith) in
       record { decides = written-decides (nibbleRows sent) (pack sent) out a; keeps = written-keeps (nibbleRows sent) (pack sent) out a };

@@ -1,5 +1,5 @@
 -- What was found is told: an outcome that rows decide is said by one of them, and each row that says 11 says the value that stands at its place.
-use mathlib.Core.Path.{_≡_, refl, sym, _∙_, subst}
+use mathlib.Core.Path.{_≡_, ap, refl, sym, _∙_, subst}
 use mathlib.Core.Bool.{Bool, true, false, not}
 use mathlib.Core.List.{List, [], _∷_, _++_}
 use mathlib.Core.Logic.{⊎-elim}
@@ -12,11 +12,11 @@ use lib.ListN.{length, getD, take, drop}
 use borrow.Author.Tests.{eqb-true, eqb-false}
 use Rattle.answers.specs.declared.Outcome.{Outcome}
 use Rattle.answers.specs.Lists.{All}
-use Rattle.answers.specs.Table.{Row, row, rowAt, rowFound, Found, found, says, outcome, outcomeAt, outcomeOf}
+use Rattle.answers.specs.Table.{Row, row, rowAt, rowFound, Found, found, says, done, first, outcome, outcomeAt, outcomeOf}
 use Rattle.answers.specs.Effect.{tested}
 use Rattle.answers.specs.promises.Decides.{Decides}
 use Rattle.answers.proofs.Lists.{all-append, all-at, all-weaken}
-use Rattle.answers.proofs.Rows.{Refusals, both-refusals, is-first, tested-stopped, tested-passed-on, decides}
+use Rattle.answers.proofs.Rows.{Refusals, both-refusals, passed-over, answered-silent, stopped, is-first, decides}
 use Rattle.streams.specs.Stream.{Report, packedIn, reportsFrom}
 use Rattle.reading.specs.code.Rooms.{made}
 use Rattle.nibbles.specs.Nibbles.{pack}
@@ -38,8 +38,11 @@ use Rattle.messages.specs.Layout.{givenRows}
 use Rattle.judging.specs.code.Judged.{bytesIn}
 use Rattle.writing.specs.declared.BankOutcome.{BankOutcome}
 use Rattle.writing.specs.Writing.{writingBank}
+use Rattle.pairs.specs.Pairs.{pairRows}
+use Rattle.pairs.proofs.Pair.{nameRows}
+use Rattle.edit_lists.proofs.Answers.{listRow}
 use Rattle.theorems.specs.Answers.{found as foundIn, complete, walkRows, thenRoom, patchesRows, bankTable, patchAt, PlaceOf, refused-patch, no-patch}
-use Rattle.theorems.specs.Found.{Tells, inPatch, standing, storing, bringing, broughtBy, SaysWhatWasFound}
+use Rattle.theorems.specs.Found.{Tells, inPatch, FirstThenSecond, standing, storing, bringing, broughtBy, SaysWhatWasFound}
 use Rattle.theorems.proofs.Answers.{demand-1, made-all}
 
 -- What a row says is so.
@@ -151,16 +154,29 @@ given-tells unknown b p = tt
 room-tells : (value : ℕ → ℤ) (rows : List Row) (n : ℕ) (out : List ℕ) → All (RowTells value) rows → All (RowTells value) (thenRoom rows n out)
 room-tells value rows n out a = all-append (RowTells value) rows _ a (plain value 13 tt _, tt)
 
--- An edit's own rows refuse, or the patch's decide.
+-- Rows refuse, or those behind them decide: an edit's own and the patch's, the first patch's and the second's.
+one-or-other : (v w : ℕ → ℤ) (rows more : List Row) {d : ℕ} {o : Outcome} → Refusals rows → Refusals more → All (RowTells v) rows → All (RowTells w) more
+    → Decides (rows ++ more) d o → ((tested rows .answer ≡ 0 → ⊥) → Tells v o) × (tested rows .answer ≡ 0 → Tells w o)
+one-or-other v w rows more {d} r q a b c =
+    let is = is-first (rows ++ more) d _ (both-refusals rows more r q) c in
+    let own : Decides rows 0 (tested rows) = decides rows 0 [] [] _ r refl in
+    let behind : Decides more d (outcomeOf (first more (done d [] []))) = decides more d [] [] _ q refl in (
+      (λ n. subst (Tells v) (sym (is ∙ ap outcomeOf (stopped rows more (done d [] []) n))) (decided v rows a own)),
+      (λ z. subst (Tells w) (sym (is ∙ ap outcomeOf (passed-over rows more (done d [] []) (answered-silent rows r z)))) (decided w more b behind)),
+    )
+
 edited : (value : ℕ → ℤ) (rows : List Row) (p : List ℕ) {o : Outcome} → Refusals rows → All (RowTells value) rows → Decides (rows ++ patchRows p) 0 o
     → ((tested rows .answer ≡ 0 → ⊥) → Tells value o) × (tested rows .answer ≡ 0 → Tells (inPatch p) o)
-edited value rows p r a c =
-    let patch = decided (inPatch p) (patchRows p) (patch-tells p) (demand-1 .test p) in
-    let own : Decides rows 0 (tested rows) = decides rows 0 [] [] _ r refl in
-    let is = is-first (rows ++ patchRows p) 0 _ (both-refusals rows (patchRows p) r (patch-refusals p)) c in (
-      (λ n. subst (Tells value) (sym (is ∙ tested-stopped rows (patchRows p) n)) (decided value rows a own)),
-      (λ z. subst (Tells (inPatch p)) (sym (is ∙ tested-passed-on rows (patchRows p) r z)) patch),
-    )
+edited value rows p r a c = one-or-other value (inPatch p) rows (patchRows p) r (patch-refusals p) a (patch-tells p) c
+
+-- Behind the two patches stand rows of other numbers than 11.
+paired : (a b : List ℕ) (more : List Row) {d : ℕ} {o : Outcome} → Refusals more → All (RowTells (inPatch b)) more → Decides (pairRows a b ++ more) d o
+    → FirstThenSecond a b o
+paired a b more r t c =
+    let v = inPatch b in
+    let behind = nameRows a b ++ more in
+    one-or-other (inPatch a) v (patchRows a) (patchRows b ++ behind) (patch-refusals a) (both-refusals (patchRows b) behind (patch-refusals b) (omega arith, r))
+    (patch-tells a) (all-append (RowTells v) (patchRows b) behind (patch-tells b) (plain v 16 tt _, t)) c
 
 -- No row of a bank's table says a value with another answer than 11.
 abbrev Other : Outcome → Type 0
@@ -242,4 +258,7 @@ says-what-was-found =
       edit = λ n v p. edited _ (editRows n v) p (edit-refusals n v) (operands-tell anEdit (n ∷ v ∷ [])) (d .edit n v p .decides);
       bus-edit = λ b s a t p.
           edited _ (busRows b s a t) p (bus-refusals b s a t) (operands-tell aBusEdit (b ∷ s ∷ a ∷ t ∷ [])) (d .bus-edit b s a t p .decides);
+      test-pair = λ a b. paired a b [] tt tt (d .test-pair a b);
+      check-plan = λ a b list. paired a b (listRow a b list) (omega arith) (plain (inPatch b) 20 tt _, tt) (d .check-plan a b list);
+      plan = λ a b out. paired a b _ (omega arith) (plain (inPatch b) 13 tt _, tt) (d .plan a b out .decides);
     }

@@ -32,13 +32,18 @@ use Rattle.messages.specs.Layout.{message, givenRows}
 use Rattle.messages.proofs.Numbers.{message-refusals, given-refusals, operand-refusals}
 use Rattle.reading.specs.code.Rooms.{made}
 use Rattle.writing.specs.Writing.{writing}
+use Rattle.pairs.specs.Pairs.{pairRows}
+use Rattle.pairs.proofs.Pair.{pair-refusals}
+use Rattle.edit_lists.specs.Lists.{listBytes}
+use Rattle.edit_lists.specs.Plan.{plan as listFor}
+use Rattle.edit_lists.proofs.Answers.{check-refusals}
 use Rattle.theorems.specs.Answers.{found, walkRows}
 use Rattle.theorems.specs.Withdrawn.{Not14, NoInputGives14, formerShort, formerly, formerJudge, formerWriting, formerApplyingBus, Withdrawn}
 use Rattle.theorems.proofs.Answers.{walk-refusals, room-refusals, bank-table-refusals, demand-1, made-all}
 
 -- What rows of refusals decide is not 14.
 not-14 : (rows : List Row) (detail : ℕ) (o : Outcome) → Refusals rows → Decides rows detail o → Not14 o
-not-14 rows detail o a d z = let n = decides-number rows detail o a d (λ y. omega arith) in omega arith
+not-14 rows detail o a d z = decides-number rows detail o a d (λ y. omega arith) .1 z
 
 -- Nor is any of the reports from a place on, or of those that one call makes.
 abbrev ReportNot14 : stream.Report → Type 0
@@ -85,6 +90,9 @@ no-input-gives-14 =
       test-packed = λ q p. not-14 _ _ _ (omega arith) (d .test-packed q p);
       test-operands = λ o b. not-14 _ _ _ (omega arith, operand-refusals o b) (d .test-operands o b);
       test-table = λ n t p. not-14 _ _ _ (omega arith) (d .test-table n t p);
+      test-pair = λ a b. not-14 _ _ _ (pair-refusals a b) (d .test-pair a b);
+      check-plan = λ a b list. not-14 _ _ _ (check-refusals a b list) (d .check-plan a b list);
+      plan = λ a b out. not-14 _ _ _ (room-refusals (pairRows a b) (length (listBytes (listFor a b))) out (pair-refusals a b)) (d .plan a b out .decides);
       set-name = λ p text. not-14 _ _ _ (omega arith) (d .set-name p text .decides);
       show-name = λ p out. not-14 _ _ _ (room-refusals (patchRows p) (length (map shown (take 8 p))) out (patch-refusals p)) (d .show-name p out .decides);
       packs = λ sent out. not-14 _ _ _ (omega arith) (d .packs sent out .decides);

@@ -33,6 +33,10 @@ use Rattle.messages.specs.Layout.{message, givenRows}
 use Rattle.reading.specs.code.Told.{walked, reads}
 use Rattle.writing.specs.declared.BankOutcome.{BankOutcome}
 use Rattle.writing.specs.Writing.{writing, bankBytes, bankMost, writingBank}
+use Rattle.pairs.specs.Pairs.{pairRows}
+use Rattle.edit_lists.specs.Lists.{listBytes}
+use Rattle.edit_lists.specs.Plan.{plan as listFor, planning}
+use Rattle.edit_lists.specs.Check.{accepts, checking}
 
 -- The bytes from the first F0H on.
 unfoldable pub fromStart : List ℕ → List ℕ
@@ -159,6 +163,13 @@ pub record Demand1 : Type 0 where
       let e = writingBank ps out in
       Answered (bankTable ps out) n n out (e .result .outcome) (e .lent)
   pub bank-place : (ps out : List ℕ) → PlaceOf ps (writingBank ps out .result)
+  -- two patches by themselves, a list of edits that is to turn one into the other, and the shortest one
+  pub test-pair : (a b : List ℕ) → Decides (pairRows a b) 0 (tested (pairRows a b))
+  pub check-plan : (a b list : List ℕ) → Decides (pairRows a b ++ (row 20 (not (accepts a b list)) ∷ [])) 0 (checking a b list)
+  pub plan : (a b out : List ℕ)
+      → let n = length (listBytes (listFor a b)) in
+      let e = planning a b out in
+      Answered (thenRoom (pairRows a b) n out) n n out (e .result) (e .lent)
   pub packs : (sent out : List ℕ)
       → let n = length (pack sent) in
       let e = packing sent out in

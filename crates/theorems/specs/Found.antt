@@ -27,6 +27,9 @@ use Rattle.judging.specs.code.Judged.{bytesIn}
 use Rattle.reading.specs.code.Told.{walked, reads}
 use Rattle.reading.specs.code.Rooms.{made}
 use Rattle.writing.specs.Writing.{writing, writingBank}
+use Rattle.pairs.specs.Pairs.{pairRows}
+use Rattle.edit_lists.specs.Plan.{planning}
+use Rattle.edit_lists.specs.Check.{checking}
 use Rattle.theorems.specs.Answers.{found, complete, patchAt}
 
 -- An outcome tells what was found, where `value` says what stands at each place.
@@ -61,6 +64,10 @@ broughtBy m =
     let k = kindOf (byteAt m 3) in
     bringing k (bytesIn (recordOf k m)) (packedIn (recordOf k m))
 
+-- The outcome of two patches, the first before the second.
+abbrev pub FirstThenSecond : List ℕ → List ℕ → Outcome → Type 0
+FirstThenSecond a b o = let own = tested (patchRows a) in ((own .answer ≡ 0 → ⊥) → Tells (inPatch a) o) × (own .answer ≡ 0 → Tells (inPatch b) o)
+
 pub record SaysWhatWasFound : Type 0 where
   -- a message that is read, by the walk, in each report, into any buffer, or by itself
   pub walk : (s : List ℕ) (place : ℕ) → Tells (broughtBy (complete (found s place))) (walked s place .outcome)
@@ -94,3 +101,7 @@ pub record SaysWhatWasFound : Type 0 where
       → let o = applyingBus bus source amount destination p .result in
       let own = tested (busRows bus source amount destination) in
       ((own .answer ≡ 0 → ⊥) → Tells (storing aBusEdit (bus ∷ source ∷ amount ∷ destination ∷ [])) o) × (own .answer ≡ 0 → Tells (inPatch p) o)
+  -- two patches: refused by the tests of the first, what it has; else what the second has
+  pub test-pair : (a b : List ℕ) → FirstThenSecond a b (tested (pairRows a b))
+  pub check-plan : (a b list : List ℕ) → FirstThenSecond a b (checking a b list)
+  pub plan : (a b out : List ℕ) → FirstThenSecond a b (planning a b out .result)

@@ -27,6 +27,9 @@ use Rattle.messages.specs.Layout.{message, givenRows}
 use Rattle.messages.specs.code.Sizes.{lentRows}
 use Rattle.reading.specs.code.Told.{walked, reads}
 use Rattle.reading.specs.code.Rooms.{made}
+use Rattle.pairs.specs.Pairs.{pairRows}
+use Rattle.edit_lists.specs.Plan.{planning}
+use Rattle.edit_lists.specs.Check.{checking}
 use Rattle.writing.specs.Writing.{writing, writingBank}
 
 abbrev pub Not14 : Outcome → Type 0
@@ -57,6 +60,10 @@ pub record NoInputGives14 : Type 0 where
   pub test-packed : (q : Packed) (p : List ℕ) → Not14 (tested (lentRows q p))
   pub test-operands : (o : Operands) (b : List ℕ) → Not14 (tested (lentOperandRows o b))
   pub test-table : (n : ℕ) (t : Option Table) (p : List ℕ) → Not14 (tested (countedRows n t p))
+  -- two patches, a list of edits between them, and the shortest one
+  pub test-pair : (a b : List ℕ) → Not14 (tested (pairRows a b))
+  pub check-plan : (a b list : List ℕ) → Not14 (checking a b list)
+  pub plan : (a b out : List ℕ) → Not14 (planning a b out .result)
   -- names and nibbles
   pub set-name : (p text : List ℕ) → Not14 (naming p text .result)
   pub show-name : (p out : List ℕ) → Not14 (showing p out .result)

@@ -94,12 +94,12 @@ pub fn half_used_patch(random: &mut Random) -> [u8; PATCH_LENGTH] {
 }
 
 /// A source and a destination, neither of them zero.
-fn used_bus(random: &mut Random) -> (u8, u8) {
+pub(super) fn used_bus(random: &mut Random) -> (u8, u8) {
     (used_code(random, SOURCE), used_code(random, DESTINATION))
 }
 
 /// A source and a destination, one of them zero.
-fn half_used_bus(random: &mut Random) -> (u8, u8) {
+pub(super) fn half_used_bus(random: &mut Random) -> (u8, u8) {
     if random.one_in(2) {
         (used_code(random, SOURCE), 0)
     } else {
@@ -407,7 +407,7 @@ pub fn bytes(random: &mut Random, length: usize) -> Vec<u8> {
 }
 
 /// A length that isn't quite the right one.
-fn near(random: &mut Random, right: usize) -> usize {
+pub(super) fn near(random: &mut Random, right: usize) -> usize {
     match random.below(5) {
         0 => 0,
         1 => right.saturating_sub(1),

@@ -4,7 +4,9 @@
 pub mod damage;
 pub mod inputs;
 mod pieces;
+pub mod plans;
 mod random;
+pub mod seeds;
 
 pub use random::Random;
 

@@ -25,7 +25,7 @@ fn message(opcode: u8, body: &[u8], out: &mut Vec<u8>) {
 }
 
 /// A dump of packed bytes with their sum. Nothing is tested.
-fn dump(opcode: u8, second: u8, packed: &[u8], out: &mut Vec<u8>) {
+pub(super) fn dump(opcode: u8, second: u8, packed: &[u8], out: &mut Vec<u8>) {
     let mut body = vec![second; 2 * packed.len() + 2];
     let [_, data @ .., sum] = body.as_mut_slice() else {
         unreachable!("a body has two bytes at least");

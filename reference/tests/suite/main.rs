@@ -1,6 +1,8 @@
 //! The second program's tests: the papers' examples, the promises of each routine, the demands.
 
+mod checking;
 mod damage;
+mod desk;
 mod editing;
 mod examples;
 mod fields;
@@ -12,10 +14,15 @@ mod neighbours;
 mod noise;
 mod noisy_streams;
 mod other_machines;
+mod plan_inputs;
+mod plan_model;
+mod plan_refusals;
+mod planning;
 mod portamento;
 mod programs;
 mod refusals;
 mod round_trips;
+mod shortest;
 mod streams;
 mod table;
 mod undamaged;

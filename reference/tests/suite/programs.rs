@@ -1,4 +1,4 @@
-//! The three programs, run as a user runs them.
+//! The listing, stream and table programs, run as a user runs them.
 
 use std::io::Write;
 use std::path::PathBuf;

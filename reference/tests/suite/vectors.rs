@@ -5,7 +5,10 @@ use std::path::{Path, PathBuf};
 
 use reference::streams::damage::{low_nibble, Damage};
 use reference::streams::inputs::with_active_sensing;
-use reference::{apply_bus_edit, apply_edit, listing, nibbles, reports, show_name, test_patch};
+use reference::{
+    apply_bus_edit, apply_edit, check_plan, listing, nibbles, plan_files, reports, show_name,
+    test_patch,
+};
 
 use crate::kit::{bass, less_real_time, outcome, record, report_outcome, P};
 use crate::model;
@@ -205,4 +208,18 @@ fn levers_are_routed_to_portamento_time() {
     );
     assert_eq!(edited[..131], P[..131]);
     assert_eq!(edited[131..], patch[131..]);
+}
+
+#[test]
+fn the_plan_turns_the_returned_patch_into_the_lent_one() {
+    let [returned, lent, plan] = ["plan_returned", "plan_lent", "plan"].map(vector);
+    assert_eq!(name_at(&returned, 0), LEAD);
+    assert_eq!(name_at(&lent, 0), LEAD);
+    assert_eq!(plan_files(&returned, &lent, false).unwrap(), plan);
+    let edits = fs::read(directory().join("plan.edits")).unwrap();
+    assert_eq!(plan_files(&returned, &lent, true).unwrap(), edits);
+
+    let [a, b] = [&returned, &lent].map(|file| record(file, 0).1);
+    assert_eq!(check_plan(&a, &b, &plan), outcome(0, 0));
+    assert_eq!(check_plan(&b, &a, &plan), outcome(20, 0));
 }

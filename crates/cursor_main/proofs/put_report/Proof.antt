@@ -1,21 +1,12 @@
--- `put_report` puts the line of its numbers, of which the last but one stands for the value.
+-- `put_report` puts the line into the room.
 use native.Mathlib.Omega.{arith}
 use borrow.Author.Needs.{needs}
-use mir.Syntax.{w16}
-use mir.Val.{SFits}
-use mir.Facts.{toZ-ofZ}
-use Rattle.answers.proofs.Signed.{number-back}
 use Rattle.text.proofs.Puts.{puts-counts}
 use Rattle.cursor_main.proofs.put_report.Statement.{statement}
 use Rattle.cursor_main.proofs.put_report.Tie as tie
 
 returns : tie.Need-returns
-returns c =
-    let n = c .before .before .before .before in
-    let v = n .before .before .before .before .args .r .outcome .value in
-    let small : SFits w16 v = search needs in
-    let p = rw (n .as-number .ensures, toZ-ofZ small, number-back v small) at (c .before .before .put-line .ensures) in
-    (p, puts-counts (omega arith) p)
+returns c = let p = c .before .before .put-report .ensures in (p, puts-counts (omega arith) p)
 
 pub put-report-spec : {M : Type 1} → statement M
-put-report-spec = tie.close (tie.spec (λ c. search needs) (λ c κs. search needs) (λ c κs. search needs) (λ c. search needs) returns)
+put-report-spec = tie.close (tie.spec (λ c κs. search needs) (λ c. search needs) returns)

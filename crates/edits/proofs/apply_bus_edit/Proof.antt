@@ -1,18 +1,20 @@
--- The edit's tests, then the patch's: each refusal leaves the patch, and the last step stores three bytes.
-use mathlib.Core.Path.{_≡_, ap}
+-- The edit's tests, then the patch's: each refusal leaves the patch, and in a patch that passes the edit is stored.
+use mathlib.Core.Path.{sym, ap, _∙_}
 use mathlib.Core.List.{List, [], _++_}
-use Prim.Native.Nat.{ℕ, _+_, _*_, _≤_}
-use native.Mathlib.Omega.{arith}
-use lib.ListN.{length, set, length-set}
+use Prim.Native.Nat.{ℕ}
 use borrow.Author.Needs.{needs}
+use Rattle.answers.specs.declared.Outcome.{Outcome}
 use Rattle.answers.specs.Table.{Row, done}
-use Rattle.answers.proofs.Lists.{all-append}
-use Rattle.answers.proofs.Effects.{passed, gives-kept, gives-kept-behind, gives-changed}
+use Rattle.answers.specs.Effect.{Effect}
 use Rattle.answers.specs.promises.Decides.{Silent}
+use Rattle.answers.proofs.Lists.{all-append}
+use Rattle.answers.proofs.Rows.{first-passed}
+use Rattle.answers.proofs.Effects.{passed, gives-kept, gives-kept-behind}
 use Rattle.patch.specs.Patch.{patchRows}
-use Rattle.patch.proofs.Tests.{patch-refusals, patch-length}
+use Rattle.patch.proofs.Tests.{patch-refusals}
 use Rattle.edits.specs.Edits.{busRows, withBus, applyingBus}
-use Rattle.edits.proofs.Tests.{bus-refusals, bus-number, bus-amount}
+use Rattle.edits.proofs.Tests.{bus-stored-applied, bus-refusals}
+use Rattle.edits.proofs.Laws.{bus-stored}
 use Rattle.edits.proofs.apply_bus_edit.Statement.{statement}
 use Rattle.edits.proofs.apply_bus_edit.Tie as tie
 
@@ -38,14 +40,6 @@ accepted e =
     let p = patch (t .before .before .before .before .before) in
     passed (patchRows p) (t .test .result) (patch-refusals p) (t .test .ensures) (e .if2 .left)
 
-number : (e : tie.Else2) → e .before .before .before .before .before .before .before .before .args .bus ≤ 9
-number e =
-    let k = e .before .before .before .before .before .before .before .before .args in
-    bus-number (k .bus) (k .source) (k .amount) (k .destination) (tested (e .before .before .before .before))
-
-whole : (e : tie.Else2) → length (patch (e .before .before .before .before .before .before .before)) ≡ 134
-whole e = patch-length (patch (e .before .before .before .before .before .before .before)) (accepted e)
-
 returns : tie.Need-returns
 unfolding applyingBus
 returns c =
@@ -61,31 +55,20 @@ returns-2 c =
     let s = e .before .before .before in
     gives-kept-behind 0 (edited s) (patch s) (rows s) (patchRows (patch s)) (done 0 [] []) (t .test .result) (tested e) (t .test .ensures) (c .if2 .taken)
 
-extend-requires : tie.Need-extend-requires
-extend-requires e κs =
-    let k = e .before .before .before .before .before .before .before .before .args in
-    bus-amount (k .bus) (k .source) (k .amount) (k .destination) (tested (e .before .before .before .before))
-
-slice-write-p : tie.Need-slice-write-p
-slice-write-p c = omega (arith, number (c .before), whole (c .before))
-
-slice-write-p-2 : tie.Need-slice-write-p-2
-slice-write-p-2 c = simp length-set (omega (arith, number (c .before), whole (c .before)))
-
-slice-write-p-3 : tie.Need-slice-write-p-3
-slice-write-p-3 c = simp length-set (omega (arith, number (c .before), whole (c .before)))
-
 returns-3 : tie.Need-returns-3
-unfolding applyingBus withBus
 returns-3 c =
-    let e = c .before .before in
+    let w = c .before .before .before in
+    let e = w .before .before in
     let s = e .before .before .before .before .before .before .before in
     let k = s .before .args in
-    let b = 3 * (k .bus) in
-    let stored : ℕ → List ℕ = λ (a : ℕ). set (set (set (patch s) (104 + b) (k .source)) (105 + b) a) (106 + b) (k .destination) in
-    let silent = all-append _ (rows s) (patchRows (patch s)) (tested (e .before .before .before .before)) (accepted e) in
-    gives-changed 0 (edited s) (patch s) (rows s ++ patchRows (patch s)) (c .done .result) (stored (c .before .extend .result)) silent
-    (c .done .ensures) (ap stored (c .before .extend .ensures))
+    let p = patch s in
+    let silent = all-append _ (rows s) (patchRows p) (tested (e .before .before .before .before)) (accepted e) in
+    let new = bus-stored (k .bus) (k .source) (k .amount) (k .destination) p (first-passed (rows s ++ patchRows p) (done 0 [] []) silent) in
+    let same = bus-stored-applied p (accepted e) (k .bus) (k .source) (k .amount) (k .destination) in
+    record {
+      result = c .done .ensures ∙ sym (ap (λ (f : Effect Outcome). f .result) new);
+      lent = w .store-bus-edit .ensures .lent ∙ ap (λ (f : Effect Outcome). f .lent) same;
+    }
 
 pub apply-bus-edit-spec : {M : Type 1} → statement M
 apply-bus-edit-spec =
@@ -96,16 +79,7 @@ apply-bus-edit-spec =
     (λ c κs. search needs)
     (λ c. search needs)
     returns-2
-    extend-requires
-    (λ c. search needs)
-    (λ c. search needs)
-    slice-write-p
-    (λ c. search needs)
-    (λ c. search needs)
-    slice-write-p-2
-    (λ c. search needs)
-    (λ c. search needs)
-    slice-write-p-3
+    (λ c κs. search needs)
     (λ c κs. search needs)
     (λ c. search needs)
     returns-3)

@@ -1,0 +1,126 @@
+// The checker: accepts a right list of edits, whoever made it. It goes through the list once, on a patch of its own.
+use answers::DONE;
+use answers::NOT_ACCEPTED;
+use answers::Outcome;
+use fields::Parameter;
+use frames::END;
+use frames::START;
+use messages::kinds::BusEdit;
+use messages::kinds::DEVICE;
+use messages::kinds::MAKER;
+use messages::kinds::PATCH;
+use messages::kinds::RemoteEdit;
+use pairs::same;
+ghost use mathlib.Core.Path.{_≡_};
+ghost use lib.ListN.{length};
+ghost use Rattle.fields.specs.Fields.{size};
+ghost use Rattle.edit_lists.specs.Lists.{messageFor};
+ghost use Rattle.edit_lists.specs.promises.Shortest.{Good};
+ghost use Rattle.edit_lists.specs.Check.{begins, asRemote, asMatrix, firstEdit, checking};
+ghost use Rattle.checker.specs.code.Steps.{Follows, lastPatch, Turns};
+
+// Bytes begin with a remote edit's message.
+fn begins_remote(s: &[u8]) -> bool
+    ensures { λ r. ⌜ r ≡ begins (messageFor (asRemote (now (s .entry)))) (now (s .entry)) ⌝ }
+{
+    if s.len() < RemoteEdit::LENGTH {
+        return false;
+    }
+    same(
+        &s[..RemoteEdit::LENGTH],
+        &[START, MAKER, DEVICE, RemoteEdit::OPCODE, s[4], s[5], END],
+    )
+}
+
+// Bytes begin with a matrix modulation edit's message.
+fn begins_matrix(s: &[u8]) -> bool
+    ensures { λ r. ⌜ r ≡ begins (messageFor (asMatrix (now (s .entry)))) (now (s .entry)) ⌝ }
+{
+    if s.len() < BusEdit::LENGTH {
+        return false;
+    }
+    same(
+        &s[..BusEdit::LENGTH],
+        &[
+            START,
+            MAKER,
+            DEVICE,
+            BusEdit::OPCODE,
+            s[4],
+            s[5],
+            s[6],
+            s[7],
+            END,
+        ],
+    )
+}
+
+// Applies the edit whose message bytes begin with, and answers how many bytes that has: 0 where none is there or it is refused. The patch
+// has passed its tests, and an edit that is allowed leaves one that does, so that only the edit's own tests are made.
+fn follow(p: &mut [u8], s: &[u8]) -> usize
+    requires { ⌜ Good (now p) ⌝ }
+    ensures { λ r. ⌜ Follows (firstEdit (now (s .entry))) (now (p .entry)) r (now (p .exit)) ⌝ }
+{
+    if begins_remote(s) {
+        if !edits::store_edit(p, Parameter(s[4]), s[5]) {
+            return 0;
+        }
+        return RemoteEdit::LENGTH;
+    }
+    if begins_matrix(s) {
+        if !edits::store_bus_edit(p, s[4], s[5], s[6], s[7]) {
+            return 0;
+        }
+        return BusEdit::LENGTH;
+    }
+    0
+}
+
+// Applies a list message by message: `true` where it is one, and every edit was allowed in turn.
+fn turn(p: &mut [u8], list: &[u8]) -> bool
+    requires { ⌜ Good (now p) ⌝ }
+    ensures { λ r. ⌜ Turns (lastPatch (now (list .entry)) (now (p .entry))) r (now (p .exit)) ⌝ }
+{
+    let mut at: usize = 0;
+    while at < list.len() {
+        let taken = follow(p, &list[at..]);
+        if taken == 0 {
+            return false;
+        }
+        at += taken;
+    }
+    true
+}
+
+// A patch of our own. Its caller has tested the length.
+fn copy_of(p: &[u8]) -> [u8; PATCH]
+    requires { ⌜ length (now p) ≡ size ⌝ }
+    ensures { λ r. ⌜ r ≡ now (p .entry) ⌝ }
+{
+    let mut own = [0u8; PATCH];
+    let mut i: usize = 0;
+    while i < PATCH {
+        own[i] = p[i];
+        i += 1;
+    }
+    own
+}
+
+// Checks a list of edits that is to turn patch a into patch b: 7, 11 and 12 of a, then of b, then 16 where their names differ, then 20
+// for any list that is not accepted. Done with detail 0.
+pub fn check_plan(a: &[u8], b: &[u8], list: &[u8]) -> Outcome
+    ensures { λ r. ⌜ r ≡ checking (now (a .entry)) (now (b .entry)) (now (list .entry)) ⌝ }
+{
+    let pair = pairs::test_pair(a, b);
+    if pair.answer != DONE {
+        return pair;
+    }
+    let mut p = copy_of(a);
+    if !turn(&mut p, list) {
+        return answers::refused(NOT_ACCEPTED, 0);
+    }
+    if !same(&p, b) {
+        return answers::refused(NOT_ACCEPTED, 0);
+    }
+    answers::done(0)
+}

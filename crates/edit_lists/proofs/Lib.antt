@@ -1,0 +1,9 @@
+pub mod Parts
+pub mod Reach
+pub mod Lists
+pub mod Rising
+pub mod Bytes
+pub mod Left
+pub mod Count
+pub mod Answers
+pub mod Example

@@ -1,0 +1,5 @@
+pub mod Lists
+pub mod Plan
+pub mod Check
+pub mod promises
+pub mod code

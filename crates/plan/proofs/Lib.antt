@@ -1,0 +1,5 @@
+pub mod Files
+pub mod Lines
+pub mod Whole
+pub mod Told
+pub mod Example

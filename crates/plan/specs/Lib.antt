@@ -1,0 +1,4 @@
+pub mod Files
+pub mod Said
+pub mod promises
+pub mod code
