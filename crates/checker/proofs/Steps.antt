@@ -19,7 +19,7 @@ use Rattle.edit_lists.specs.Lists.{Edit, messageFor, applied, turned}
 use Rattle.edit_lists.specs.Check.{begins, asRemote, asMatrix, firstEdit, before, andBehind, editsIn, endsIn, turnInto, accepts, checking}
 use Rattle.edit_lists.specs.promises.Shortest.{Good}
 use Rattle.edit_lists.proofs.Reach.{one-changed}
-use Rattle.edit_lists.proofs.Bytes.{first-bytes, message-some, edits-none, edits-first, edits-enough}
+use Rattle.edit_lists.proofs.Bytes.{begins-short, first-bytes, message-some, edits-none, edits-first, edits-enough}
 use Rattle.checker.specs.code.Steps.{takenBy, leftBy, Follows, turnedBy, lastPatch, Turns}
 
 -- The edit that bytes begin with, by the two tests.
@@ -95,6 +95,12 @@ last-stop s p after h f = last-first s p h ∙ go (firstEdit s) (f .taken)
         by : (t : Bool) → 0 ≡ cond t (length (messageFor e)) 0 → cond t (lastPatch (drop (length (messageFor e)) s) (applied e p .lent)) none ≡ none
         by true z = let m = message-some e in absurd (omega arith)
         by false z = refl
+
+-- Nor is there one where bytes are left that are fewer than a message has.
+pub last-short : (s p : List ℕ) → 0 < length s → length s < 7 → lastPatch s p ≡ none
+last-short s p h k =
+    let neither = first-neither s (begins-short (messageFor (asRemote s)) s (omega arith)) (begins-short (messageFor (asMatrix s)) s (omega arith)) in
+    last-stop s p p h (follows-none (firstEdit s) p neither)
 
 -- Bytes are taken: they are those of the first message, and the rest goes on from there.
 pub last-next : (s p after : List ℕ) (r : ℕ) → 0 < length s → Follows (firstEdit s) p r after → (r ≡ 0 → ⊥)

@@ -12,12 +12,30 @@ use messages::kinds::PATCH;
 use messages::kinds::RemoteEdit;
 use pairs::same;
 ghost use mathlib.Core.Path.{_≡_};
-ghost use lib.ListN.{length};
+ghost use mathlib.Core.List.{[], _∷_};
+ghost use Prim.Native.Nat.{_+_, _*_, _≤_};
+ghost use lib.ListN.{length, take};
 ghost use Rattle.fields.specs.Fields.{size};
+ghost use Rattle.pairs.specs.Pairs.{sameBytes};
 ghost use Rattle.edit_lists.specs.Lists.{messageFor};
 ghost use Rattle.edit_lists.specs.promises.Shortest.{Good};
 ghost use Rattle.edit_lists.specs.Check.{begins, asRemote, asMatrix, firstEdit, checking};
 ghost use Rattle.checker.specs.code.Steps.{Follows, lastPatch, Turns};
+
+// Four bytes as one number, the first the least.
+fn word(a: u8, b: u8, c: u8, d: u8) -> u32
+    ensures { λ r. ⌜ r ≡ a + 256 * b + 65536 * c + 16777216 * d ⌝ }
+{
+    a as u32 + 256 * b as u32 + 65536 * c as u32 + 16777216 * d as u32
+}
+
+// Bytes begin with F0H 10H 06H and an opcode: four comparisons in one. The callers below have seen that there are as many.
+fn opens(s: &[u8], opcode: u8) -> bool
+    requires { ⌜ 4 ≤ length (now s) ⌝ }
+    ensures { λ r. ⌜ r ≡ sameBytes (take 4 (now (s .entry))) (240 ∷ 16 ∷ 6 ∷ opcode ∷ []) ⌝ }
+{
+    word(s[0], s[1], s[2], s[3]) == word(START, MAKER, DEVICE, opcode)
+}
 
 // Bytes begin with a remote edit's message.
 fn begins_remote(s: &[u8]) -> bool
@@ -26,10 +44,10 @@ fn begins_remote(s: &[u8]) -> bool
     if s.len() < RemoteEdit::LENGTH {
         return false;
     }
-    same(
-        &s[..RemoteEdit::LENGTH],
-        &[START, MAKER, DEVICE, RemoteEdit::OPCODE, s[4], s[5], END],
-    )
+    if !opens(s, RemoteEdit::OPCODE) {
+        return false;
+    }
+    s[RemoteEdit::LENGTH - 1] == END
 }
 
 // Bytes begin with a matrix modulation edit's message.
@@ -39,20 +57,10 @@ fn begins_matrix(s: &[u8]) -> bool
     if s.len() < BusEdit::LENGTH {
         return false;
     }
-    same(
-        &s[..BusEdit::LENGTH],
-        &[
-            START,
-            MAKER,
-            DEVICE,
-            BusEdit::OPCODE,
-            s[4],
-            s[5],
-            s[6],
-            s[7],
-            END,
-        ],
-    )
+    if !opens(s, BusEdit::OPCODE) {
+        return false;
+    }
+    s[BusEdit::LENGTH - 1] == END
 }
 
 // Applies the edit whose message bytes begin with, and answers how many bytes that has: 0 where none is there or it is refused. The patch
@@ -76,20 +84,21 @@ fn follow(p: &mut [u8], s: &[u8]) -> usize
     0
 }
 
-// Applies a list message by message: `true` where it is one, and every edit was allowed in turn.
+// Applies a list message by message: `true` where it is one, and every edit was allowed in turn. Fewer bytes than the shortest message
+// has are none.
 fn turn(p: &mut [u8], list: &[u8]) -> bool
     requires { ⌜ Good (now p) ⌝ }
     ensures { λ r. ⌜ Turns (lastPatch (now (list .entry)) (now (p .entry))) r (now (p .exit)) ⌝ }
 {
     let mut at: usize = 0;
-    while at < list.len() {
+    while RemoteEdit::LENGTH <= list.len() - at {
         let taken = follow(p, &list[at..]);
         if taken == 0 {
             return false;
         }
         at += taken;
     }
-    true
+    at == list.len()
 }
 
 // A patch of our own. Its caller has tested the length.

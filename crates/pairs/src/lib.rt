@@ -7,21 +7,24 @@ ghost use mathlib.Core.Path.{_≡_};
 ghost use Rattle.answers.specs.Effect.{tested};
 ghost use Rattle.pairs.specs.Pairs.{sameBytes, pairRows};
 
-// The bytes of a and b are the same, and as many.
+// The bytes of a and b are the same, and as many. There is no way out at the first that differs: so many are compared at a time.
 pub fn same(a: &[u8], b: &[u8]) -> bool
     ensures { λ r. ⌜ r ≡ sameBytes (now (a .entry)) (now (b .entry)) ⌝ }
 {
     if a.len() != b.len() {
         return false;
     }
+    let mut equal = true;
     let mut i: usize = 0;
     while i < a.len() {
         if a[i] != b[i] {
-            return false;
+            equal = false;
+            i += 1;
+        } else {
+            i += 1;
         }
-        i += 1;
     }
-    true
+    equal
 }
 
 // The test of both patches: 7, 11 and 12 of a, then of b; then 16 where their names differ. Done with detail 0.

@@ -1,18 +1,20 @@
 -- Message after message is followed. The invariant: the last patch of the list is that of the bytes from the place at hand on, from the patch at hand.
 use mathlib.Core.Path.{_≡_, refl, _∙_, subst}
-use mathlib.Core.Bool.{true, false}
+use mathlib.Core.Bool.{Bool, true, false}
 use mathlib.Core.List.{List}
 use mathlib.Core.Option.{Option, some, none}
 use Prim.Native.Nat.{ℕ, _+_, _-_, _≤_, _<_}
 use native.Mathlib.Omega.{arith}
+use lib.Dec.{eqb}
 use lib.ListN.{length, drop, length-drop}
 use lib.Seq.{drop-drop}
 use borrow.Author.Needs.{needs}
+use borrow.Author.Tests.{eqb-true, eqb-false}
 use Rattle.answers.proofs.Lists.{to-end}
 use Rattle.edit_lists.specs.Check.{firstEdit}
 use Rattle.edit_lists.specs.promises.Shortest.{Good}
 use Rattle.checker.specs.code.Steps.{Follows, lastPatch, Turns}
-use Rattle.checker.proofs.Steps.{last-none, last-stop, last-next, next-good}
+use Rattle.checker.proofs.Steps.{last-none, last-stop, last-short, last-next, next-good}
 use Rattle.checker.proofs.turn.Statement.{statement}
 use Rattle.checker.proofs.turn.Tie as tie
 
@@ -82,11 +84,24 @@ loop-again c =
       next-good (left t) (l .loop .p) (t .follow .last .0) (t .follow .result) (gave t) z,
     )
 
+-- No byte is left, or too few.
+turns-at : (o : Option (List ℕ)) (at n : ℕ) (after : List ℕ) → (at ≡ n → o ≡ some after) → ((at ≡ n → ⊥) → o ≡ none) → Turns o (eqb at n) after
+turns-at o at n after all few = go (eqb at n) refl
+  where
+    go : (t : Bool) → eqb at n ≡ t → Turns o t after
+    go true q = turns-some o after (all (eqb-true at n q))
+    go false q = turns-none o after (few (eqb-false at n q))
+
 returns-2 : tie.Need-returns-2 Inv-loop μ-loop
 returns-2 c =
     let l = c .before in
     let list = l .before .before .before .args .list .now in
-    turns-some _ (l .loop .p) (l .loop .inv .2 ∙ last-none (drop (l .loop .at) list) (l .loop .p) (simp length-drop (omega (arith, c .loop-test .left))))
+    let at = l .loop .at in
+    let p = l .loop .p in
+    turns-at _ at (length list) p
+    (λ e. l .loop .inv .2 ∙ last-none (drop at list) p (simp length-drop (omega arith)))
+    (λ n. l .loop .inv .2
+    ∙ last-short (drop at list) p (simp length-drop (omega (arith, n, l .loop .inv .0))) (simp length-drop (omega (arith, c .loop-test .left))))
 
 pub turn-spec : {M : Type 1} → statement M
 turn-spec =
@@ -95,6 +110,7 @@ turn-spec =
     Inv-loop
     μ-loop
     (λ c. (omega arith, refl, refl, c .before .before .pre))
+    (λ c. omega (arith, c .loop .inv .0))
     (λ c. omega arith)
     (λ c. omega arith)
     (λ c. omega arith)
