@@ -13,13 +13,13 @@ use messages::kinds::RemoteEdit;
 use pairs::same;
 ghost use mathlib.Core.Path.{_≡_};
 ghost use mathlib.Core.List.{[], _∷_};
-ghost use Prim.Native.Nat.{_+_, _*_, _≤_};
-ghost use lib.ListN.{length, take};
+ghost use Prim.Native.Nat.{_+_, _-_, _*_, _≤_};
+ghost use lib.ListN.{length, take, drop};
 ghost use Rattle.fields.specs.Fields.{size};
+ghost use Rattle.messages.specs.Layout.{messageOf};
 ghost use Rattle.pairs.specs.Pairs.{sameBytes};
-ghost use Rattle.edit_lists.specs.Lists.{messageFor};
 ghost use Rattle.edit_lists.specs.promises.Shortest.{Good};
-ghost use Rattle.edit_lists.specs.Check.{begins, asRemote, asMatrix, firstEdit, checking};
+ghost use Rattle.edit_lists.specs.Check.{begins, firstEdit, checking};
 ghost use Rattle.checker.specs.code.Steps.{Follows, lastPatch, Turns};
 
 // Four bytes as one number, the first the least.
@@ -29,7 +29,7 @@ fn word(a: u8, b: u8, c: u8, d: u8) -> u32
     a as u32 + 256 * b as u32 + 65536 * c as u32 + 16777216 * d as u32
 }
 
-// Bytes begin with F0H 10H 06H and an opcode: four comparisons in one. The callers below have seen that there are as many.
+// Bytes begin with F0H 10H 06H and an opcode: four comparisons in one. The caller below has seen that there are as many.
 fn opens(s: &[u8], opcode: u8) -> bool
     requires { ⌜ 4 ≤ length (now s) ⌝ }
     ensures { λ r. ⌜ r ≡ sameBytes (take 4 (now (s .entry))) (240 ∷ 16 ∷ 6 ∷ opcode ∷ []) ⌝ }
@@ -37,30 +37,19 @@ fn opens(s: &[u8], opcode: u8) -> bool
     word(s[0], s[1], s[2], s[3]) == word(START, MAKER, DEVICE, opcode)
 }
 
-// Bytes begin with a remote edit's message.
-fn begins_remote(s: &[u8]) -> bool
-    ensures { λ r. ⌜ r ≡ begins (messageFor (asRemote (now (s .entry)))) (now (s .entry)) ⌝ }
+// Bytes begin with a message of this opcode and size, whatever its own bytes are: as many, the first four, the last. The caller below
+// names the two kinds of edits.
+fn begins_with(s: &[u8], opcode: u8, size: usize) -> bool
+    requires { ⌜ 5 ≤ size ⌝ }
+    ensures { λ r. ⌜ r ≡ begins (messageOf opcode (take (size - 5) (drop 4 (now (s .entry))))) (now (s .entry)) ⌝ }
 {
-    if s.len() < RemoteEdit::LENGTH {
+    if s.len() < size {
         return false;
     }
-    if !opens(s, RemoteEdit::OPCODE) {
+    if !opens(s, opcode) {
         return false;
     }
-    s[RemoteEdit::LENGTH - 1] == END
-}
-
-// Bytes begin with a matrix modulation edit's message.
-fn begins_matrix(s: &[u8]) -> bool
-    ensures { λ r. ⌜ r ≡ begins (messageFor (asMatrix (now (s .entry)))) (now (s .entry)) ⌝ }
-{
-    if s.len() < BusEdit::LENGTH {
-        return false;
-    }
-    if !opens(s, BusEdit::OPCODE) {
-        return false;
-    }
-    s[BusEdit::LENGTH - 1] == END
+    s[size - 1] == END
 }
 
 // Applies the edit whose message bytes begin with, and answers how many bytes that has: 0 where none is there or it is refused. The patch
@@ -69,13 +58,13 @@ fn follow(p: &mut [u8], s: &[u8]) -> usize
     requires { ⌜ Good (now p) ⌝ }
     ensures { λ r. ⌜ Follows (firstEdit (now (s .entry))) (now (p .entry)) r (now (p .exit)) ⌝ }
 {
-    if begins_remote(s) {
+    if begins_with(s, RemoteEdit::OPCODE, RemoteEdit::LENGTH) {
         if !edits::store_edit(p, Parameter(s[4]), s[5]) {
             return 0;
         }
         return RemoteEdit::LENGTH;
     }
-    if begins_matrix(s) {
+    if begins_with(s, BusEdit::OPCODE, BusEdit::LENGTH) {
         if !edits::store_bus_edit(p, s[4], s[5], s[6], s[7]) {
             return 0;
         }

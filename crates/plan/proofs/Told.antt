@@ -1,17 +1,18 @@
 -- What is said for two files and for an input, by what the files come to.
 use mathlib.Core.Path.{_≡_, refl, sym, _∙_}
-use mathlib.Core.Bool.{Bool, true, false}
+use mathlib.Core.Bool.{Bool, true, false, cond}
 use mathlib.Core.List.{List, [], _++_}
-use Prim.Native.Nat.{ℕ, _+_, _≤_, _<_}
+use Prim.Native.Nat.{ℕ, _+_, _-_, _≤_}
 use native.Mathlib.Omega.{arith}
+use lib.Dec.{ltb}
 use lib.ListN.{length, take, drop, drop-of-length-le, length-drop}
-use lib.Seq.{take-nil, take-all, drop-nil, drop-drop}
-use Rattle.streams.specs.Stream as stream
+use lib.Seq.{take-nil, take-all, drop-drop}
+use borrow.Author.Tests.{ltb-true, ltb-false}
 use Rattle.text.specs.Text.{ascii, Puts}
 use Rattle.text.proofs.Puts.{puts-none}
 use Rattle.plan.specs.Files.{foundIn, patchIn, sentence}
 use Rattle.plan.specs.Said.{said, proposing, isOne, byFiles, wantsLines, firstLength, saidOf}
-use Rattle.plan.specs.code.Written.{Says}
+use Rattle.plan.specs.code.Written.{least, Says}
 use Rattle.plan.proofs.Lines.{says}
 
 -- What goes to the standard error alone.
@@ -32,33 +33,50 @@ module _ (lines : Bool) (returned lent : List ℕ) where
     unfolding byFiles
     both-found f = rw (e, f)
 
--- The two files of an input, as the code takes them apart.
-module _ (s : List ℕ) where
-  -- Without a head there are none: nothing is wanted then.
-  no-files : (lines : Bool) → byFiles false [] [] ≡ byFiles lines [] []
-  no-files lines = first-fails false [] [] none ∙ sym (first-fails lines [] [] none)
+-- Two places in bytes, each their end where they have fewer: the first is not past the second, nor that past the end.
+module _ (i n : ℕ) (s : List ℕ) where
+  pub in-order : (least i (length s) ≤ least (i + n) (length s)) × (least (i + n) (length s) ≤ length s)
+  in-order = go (ltb (length s) i) (ltb (length s) (i + n)) refl refl
     where
-      none : isOne (foundIn []) ≡ false
-      none = unfold foundIn stream.walk stream.firstFrom in refl
+      go : (t u : Bool) → ltb (length s) i ≡ t → ltb (length s) (i + n) ≡ u
+          → (cond t (length s) i ≤ cond u (length s) (i + n)) × (cond u (length s) (i + n) ≤ length s)
+      go true true q r = (omega arith, omega arith)
+      go true false q r = let h = ltb-true (length s) i q in let k = ltb-false (length s) (i + n) r in (omega arith, omega arith)
+      go false true q r = let h = ltb-false (length s) i q in (omega arith, omega arith)
+      go false false q r = let k = ltb-false (length s) (i + n) r in (omega arith, omega arith)
 
-  pub files-none : length s < 4 → (r : List ℕ) → r ≡ drop (length s) s → byFiles false r r ≡ saidOf s
-  unfolding saidOf
-  files-none h r e =
-      let n = firstLength s in
-      let few : length s ≤ 4 = omega arith in
-      let all : length s ≤ length s = omega arith in
-      rw (e, drop-of-length-le s all, drop-of-length-le s few, take-nil n, drop-nil n) (no-files (wantsLines s))
+  -- The bytes between them.
+  cut : take (least (i + n) (length s) - least i (length s)) (drop (least i (length s)) s) ≡ take n (drop i s)
+  cut = go (ltb (length s) i) (ltb (length s) (i + n)) refl refl
+    where
+      go : (t u : Bool) → ltb (length s) i ≡ t → ltb (length s) (i + n) ≡ u
+          → take (cond u (length s) (i + n) - cond t (length s) i) (drop (cond t (length s) i) s) ≡ take n (drop i s)
+      go true u q r =
+          let h = ltb-true (length s) i q in
+          let few : length s ≤ i = omega arith in
+          let all : length s ≤ length s = omega arith in
+          rw (drop-of-length-le s all, drop-of-length-le s few, take-nil n) (take-nil (cond u (length s) (i + n) - length s))
+      go false true q r =
+          let k = ltb-true (length s) (i + n) r in
+          let rest = length-drop i s in
+          take-all (length s - i) (drop i s) (omega arith) ∙ sym (take-all n (drop i s) (omega arith))
+      go false false q r = let e : i + n - i ≡ n = omega arith in rw e
 
-  -- The first is longer than what is there.
-  pub files-one : 4 ≤ length s → length s < 4 + firstLength s → (r l : List ℕ) → r ≡ drop 4 s → l ≡ drop (length s) s
-      → byFiles (wantsLines s) r l ≡ saidOf s
-  unfolding saidOf
-  files-one h u r l f e =
-      let rest = drop 4 s in
-      let few : length rest ≤ firstLength s = omega (arith, length-drop 4 s) in
-      let all : length s ≤ length s = omega arith in
-      rw (e, f, drop-of-length-le s all, take-all (firstLength s) rest few, drop-of-length-le rest few)
+from-place : (i : ℕ) (s : List ℕ) → drop (least i (length s)) s ≡ drop i s
+from-place i s = go (ltb (length s) i) refl
+  where
+    go : (t : Bool) → ltb (length s) i ≡ t → drop (cond t (length s) i) s ≡ drop i s
+    go true q =
+        let h = ltb-true (length s) i q in
+        let few : length s ≤ i = omega arith in
+        let all : length s ≤ length s = omega arith in
+        drop-of-length-le s all ∙ sym (drop-of-length-le s few)
+    go false q = refl
 
-  pub files-both : (r l : List ℕ) → r ≡ take (firstLength s) (drop 4 s) → l ≡ drop (4 + firstLength s) s → byFiles (wantsLines s) r l ≡ saidOf s
-  unfolding saidOf
-  files-both r l e f = rw (e, f, drop-drop (firstLength s) 4 s)
+-- The two files of an input, as the code takes them apart.
+pub files : (s l : List ℕ) (lines : Bool) (n from to : ℕ) → lines ≡ wantsLines s → n ≡ firstLength s → from ≡ least 4 (length s)
+    → to ≡ least (4 + n) (length s) → l ≡ drop to s → byFiles lines (take (to - from) (drop from s)) l ≡ saidOf s
+unfolding saidOf
+files s l lines n from to wants first f t e =
+    let rest = from-place (4 + n) s ∙ sym (drop-drop n 4 s) in
+    rw (wants, e, f, t, cut 4 n s, rest, first)

@@ -17,7 +17,7 @@ use messages::kinds::SinglePatch;
 use reading::walking::Report;
 ghost use mathlib.Core.Path.{_≡_};
 ghost use Prim.Native.Nat.{_≤_, _<_};
-ghost use lib.ListN.{length};
+ghost use lib.ListN.{length, getD, replicate};
 ghost use Rattle.answers.specs.Effect.{tested};
 ghost use Rattle.streams.specs.Stream.{between};
 ghost use Rattle.fields.specs.Fields.{size};
@@ -28,7 +28,7 @@ ghost use Rattle.edit_lists.specs.Plan.{plan};
 ghost use Rattle.edit_lists.specs.code.Left.{Part};
 ghost use Rattle.plan.specs.Files.{isPatchDump, onlyRealTime, foundIn, patchIn, sentence};
 ghost use Rattle.plan.specs.Said.{shownAt, parameterLine, busValues, busLine, changeLine, changeLines, proposing, isOne, byFiles, threeBytes, saidOf};
-ghost use Rattle.plan.specs.code.Written.{roomMost, Says};
+ghost use Rattle.plan.specs.code.Written.{least, roomMost, Says};
 
 // A byte that says what is wanted, and the length of the first file in three, low byte first.
 const HEAD: usize = 4;
@@ -287,9 +287,29 @@ fn number_of(low: u8, middle: u8, high: u8) -> usize
     low as usize + (256 * middle as usize + 65536 * high as usize)
 }
 
+// A byte of the input, 0 past its end.
+fn byte_at(input: &[u8], i: usize) -> u8
+    ensures { λ r. ⌜ r ≡ getD (now (input .entry)) i 0 ⌝ }
+{
+    if input.len() <= i {
+        return 0;
+    }
+    input[i]
+}
+
+// A place in the input: its end, where it has fewer bytes.
+fn place_in(input: &[u8], at: usize) -> usize
+    ensures { λ r. ⌜ r ≡ least at (length (now (input .entry))) ⌝ }
+{
+    if input.len() < at {
+        return input.len();
+    }
+    at
+}
+
 // A room that takes all that can be said.
 pub fn room() -> [u8; ROOM]
-    ensures { λ r. ⌜ roomMost ≡ length r ⌝ }
+    ensures { λ r. ⌜ r ≡ replicate roomMost 0 ⌝ }
 {
     [0; ROOM]
 }
@@ -298,14 +318,9 @@ pub fn room() -> [u8; ROOM]
 pub fn answer(input: &[u8], room: &mut [u8]) -> Written
     ensures { λ r. ⌜ Says (saidOf (now (input .entry))) (now (room .entry)) (now (room .exit)) r ⌝ }
 {
-    let n = input.len();
-    if n < HEAD {
-        return answer_files(false, &input[n..], &input[n..], room);
-    }
-    let lines = input[0] == WANTS_LINES;
-    let from = HEAD + number_of(input[1], input[2], input[3]);
-    if n < from {
-        return answer_files(lines, &input[HEAD..], &input[n..], room);
-    }
-    answer_files(lines, &input[HEAD..from], &input[from..], room)
+    let lines = byte_at(input, 0) == WANTS_LINES;
+    let size = number_of(byte_at(input, 1), byte_at(input, 2), byte_at(input, 3));
+    let from = place_in(input, HEAD);
+    let to = place_in(input, HEAD + size);
+    answer_files(lines, &input[from..to], &input[to..], room)
 }

@@ -9,31 +9,38 @@ use borrow.Author.Tests.{not-true, not-false}
 use Rattle.edits.specs.code.Storing.{Stored}
 use Rattle.edits.proofs.Tests.{stored-applied, bus-stored-applied}
 use Rattle.edit_lists.specs.Lists.{messageFor, applied}
-use Rattle.edit_lists.specs.Check.{asRemote, asMatrix, firstEdit}
+use Rattle.edit_lists.specs.Check.{begins, asRemote, asMatrix, firstEdit}
 use Rattle.edit_lists.proofs.Reach.{good-silent}
 use Rattle.edit_lists.proofs.Bytes.{begins-long}
+use Rattle.checker.proofs.Heads.{begins-remote, begins-matrix}
 use Rattle.checker.proofs.Steps.{first-remote, first-matrix, first-neither, follows-refused, follows-done, follows-none}
 use Rattle.checker.proofs.follow.Statement.{statement}
 use Rattle.checker.proofs.follow.Tie as tie
 
+-- What the two tests told of the bytes.
+by-remote : (l : tie.After-begins-with) → let s = l .before .before .before .args .s .now in begins (messageFor (asRemote s)) s ≡ l .begins-with .result
+by-remote l = sym (begins-remote (l .before .before .before .args .s .now)) ∙ sym (l .begins-with .ensures)
+
+by-matrix : (l : tie.After-begins-with2) → let s = l .before .before .before .before .before .args .s .now in begins (messageFor (asMatrix s)) s ≡ l .begins-with2 .result
+by-matrix l = sym (begins-matrix (l .before .before .before .before .before .args .s .now)) ∙ sym (l .begins-with2 .ensures)
+
 -- Where the bytes begin with a message, those behind its opcode are there.
 remote-there : (c : tie.Then1) → 7 ≤ length (c .before .before .before .before .args .s .now)
-remote-there c = let s = c .before .before .before .before .args .s .now in begins-long (messageFor (asRemote s)) s (sym (c .before .begins-remote .ensures) ∙ c .if1 .taken)
+remote-there c = let s = c .before .before .before .before .args .s .now in begins-long (messageFor (asRemote s)) s (by-remote (c .before) ∙ c .if1 .taken)
 
 matrix-there : (c : tie.Then3) → 9 ≤ length (c .before .before .before .before .before .before .args .s .now)
 matrix-there c =
     let s = c .before .before .before .before .before .before .args .s .now in
-    begins-long (messageFor (asMatrix s)) s (sym (c .before .begins-matrix .ensures) ∙ c .if3 .taken)
+    begins-long (messageFor (asMatrix s)) s (by-matrix (c .before) ∙ c .if3 .taken)
 
 -- The edit that they begin with.
 is-remote : (c : tie.Then1) → let s = c .before .before .before .before .args .s .now in firstEdit s ≡ some (asRemote s)
-is-remote c = first-remote (c .before .before .before .before .args .s .now) (sym (c .before .begins-remote .ensures) ∙ c .if1 .taken)
+is-remote c = first-remote (c .before .before .before .before .args .s .now) (by-remote (c .before) ∙ c .if1 .taken)
 
 is-matrix : (c : tie.Then3) → let s = c .before .before .before .before .before .before .args .s .now in firstEdit s ≡ some (asMatrix s)
 is-matrix c =
     let e = c .before .before in
-    first-matrix (e .before .before .before .before .args .s .now) (sym (e .before .begins-remote .ensures) ∙ e .if1 .left)
-    (sym (c .before .begins-matrix .ensures) ∙ c .if3 .taken)
+    first-matrix (e .before .before .before .before .args .s .now) (by-remote (e .before) ∙ e .if1 .left) (by-matrix (c .before) ∙ c .if3 .taken)
 
 -- In a patch that passes, storing it is applying it.
 edited : (c : tie.After-store-edit) → let k = c .before .before .before .before .before .before .before .before .args in
@@ -92,7 +99,7 @@ returns-5 c =
     let e = c .before .before in
     let k = e .before .before .before .before .args in
     follows-none (firstEdit (k .s .now)) (k .p .now)
-    (first-neither (k .s .now) (sym (e .before .begins-remote .ensures) ∙ e .if1 .left) (sym (c .before .begins-matrix .ensures) ∙ c .if3 .left))
+    (first-neither (k .s .now) (by-remote (e .before) ∙ e .if1 .left) (by-matrix (c .before) ∙ c .if3 .left))
 
 pub follow-spec : {M : Type 1} → statement M
 follow-spec =

@@ -1,11 +1,17 @@
 -- How the routine tells what the program writes: both texts in a lent room, one behind the other.
 use mathlib.Core.Path.{_≡_}
+use mathlib.Core.Bool.{cond}
 use mathlib.Core.List.{List, _++_}
 use Prim.Native.Nat.{ℕ, _≤_}
+use lib.Dec.{ltb}
 use lib.ListN.{length}
 use Rattle.text.specs.Text.{fitting, Puts}
 use Rattle.plan.specs.Said.{Said}
 use Rattle.plan.specs.declared.Written.{Written}
+
+-- The lesser of two numbers.
+abbrev pub least : ℕ → ℕ → ℕ
+least a n = cond (ltb n a) n a
 
 -- All that can be said fits into a room of so many bytes.
 abbrev pub roomMost : ℕ
