@@ -1,6 +1,6 @@
 // The library for C and Rust to link: walk, read, reports, test, lookups, ranges and values of parameters, names, both edits, all writers,
-// the bank, and the planner with its checker, each the routine itself with its own contract. A slice passes as a pointer and a length; a struct is returned by value, laid out
-// as C lays it out.
+// the bank, and the planner with its checker, each the routine itself with its own contract. A slice passes as a pointer and a length; a
+// struct is returned by value, laid out as C lays it out.
 use answers::Outcome;
 use fields::BytePlace;
 use fields::FoundParameter;
