@@ -1,5 +1,5 @@
-/* Oberheim Matrix-1000 and Matrix-6R system exclusive dumps: reading, testing, editing and writing, and
- * the edits that turn one patch into another.
+/* Oberheim Matrix-1000 and Matrix-6R system exclusive dumps: reading, from memory or as they come in,
+ * testing, editing and writing, and the edits that turn one patch into another.
  *
  * The face for C and C++ of a library that is proved. The library is libexports.a, which
  * `rt staticlib exports` makes in the repository that this header comes from; `make -C c install`
@@ -12,11 +12,15 @@
  * - Where several refusals apply, the first in the order that the comment names is given. An outcome's
  *   detail is 0 where the comment names none; its value is 0 with every answer but 11.
  * - Refused: every byte lent keeps its value. Done: bytes behind the output keep theirs.
- * - No function allocates, keeps a pointer, or has any state; each may be called from any thread.
+ * - No function allocates, keeps a pointer, or has any state but the matrix_cable that it is lent; each
+ *   may be called from any thread.
  */
 #ifndef MATRIX_H
 #define MATRIX_H
 
+#include <assert.h>
+#include <stdalign.h>
+#include <stdbool.h>
 #include <stddef.h>
 #include <stdint.h>
 
@@ -43,7 +47,8 @@ enum matrix_answer {
     MATRIX_HALF_USED = 12,    /* a bus half used; detail: the lowest such bus */
     MATRIX_NO_ROOM = 13,      /* the lent output is too short */
     MATRIX_OTHER_NAME = 16,   /* the two patches have different names, and no edit reaches a name */
-    MATRIX_NOT_ACCEPTED = 20  /* the list of edits is not accepted */
+    MATRIX_NOT_ACCEPTED = 20, /* the list of edits is not accepted */
+    MATRIX_TOO_MANY = 21      /* more bytes than MATRIX_CABLE_MOST would have been taken */
 };
 
 /* The opcodes: the detail of a message that is read with answer 0. */
@@ -69,6 +74,13 @@ enum matrix_opcode {
 /* matrix_reports makes at most this many reports a call, of so many numbers each. */
 #define MATRIX_REPORTS 8
 #define MATRIX_REPORT_NUMBERS 6
+
+/* The most bytes that a matrix_cable takes from its fresh start on. */
+#define MATRIX_CABLE_MOST 4294967295u
+
+/* The bytes of a matrix_cable, and what its address is a multiple of. */
+#define MATRIX_CABLE_SIZE 392
+#define MATRIX_CABLE_ALIGN 8
 
 /* matrix_place_of and matrix_parameter_of where there is none. */
 #define MATRIX_NONE 255
@@ -126,6 +138,37 @@ typedef struct matrix_listed {
     size_t next;
 } matrix_listed;
 
+/* A reader that is fed what has arrived so far. The caller holds it, and each call updates it. It
+ * begins as matrix_cable_fresh gives it; only the calls write it. There is no pointer in it: it may be
+ * copied, moved, and given up at any time. */
+typedef struct matrix_cable {
+    uint8_t bytes[MATRIX_MASTER_MESSAGE]; /* behind the F0H of an open message, without real time; else
+                                             what matrix_cable_packed gives */
+    bool inside;  /* whether a message is open */
+    bool over;    /* whether the end was declared */
+    size_t count; /* how many bytes stand there; a longer message is followed without being stored */
+    size_t start; /* the place of the open message's F0H, else 0 */
+    size_t noise; /* how much real time it has so far, else 0 */
+    size_t taken; /* how many bytes were taken so far */
+} matrix_cable;
+
+static_assert(sizeof(matrix_cable) == MATRIX_CABLE_SIZE, "the library has a size_t of eight bytes");
+static_assert(alignof(matrix_cable) == MATRIX_CABLE_ALIGN, "the library has a size_t of eight bytes");
+
+/* What a call on a matrix_cable tells. Ask `ended` before the answer, which is 0 also where a feed is
+ * done and no message ended with it. */
+typedef struct matrix_fed {
+    matrix_reading reading; /* of the message that ended; places count from the first byte taken */
+    size_t taken;           /* how many bytes of the feed were taken; the others are fed again */
+    bool ended;             /* whether a message ended */
+} matrix_fed;
+
+/* A dump's packed bytes where they stand. */
+typedef struct matrix_packed {
+    const uint8_t *bytes;
+    size_t length;
+} matrix_packed;
+
 /* Finds the first message of the input `s` that starts at `place` or later. Real-time bytes, F8H to
  * FFH, may stand anywhere inside a message: they are dropped before its bytes are looked at, counted
  * or indexed, but start and end are places of the input with them, and the report's noise is how many
@@ -152,6 +195,39 @@ matrix_reading matrix_read(const uint8_t *s, size_t s_len, size_t place,
  * Numbers behind them are kept. */
 matrix_listed matrix_reports(const uint8_t *s, size_t s_len, size_t place,
                              size_t *room, size_t room_len);
+
+/* A reader at a fresh start. */
+matrix_cable matrix_cable_fresh(void);
+
+/* Feeds a reader what has arrived, one byte or as many as there are. It takes bytes up to the end of
+ * the next message, or all if none ends. What is not taken is fed again, with more behind it or not:
+ * the status byte that interrupts a message too, which is no part of that message. A feed that has
+ * bytes and takes none tells of a message that ended, and the next takes some. However a stream is cut
+ * into feeds, its messages are told as matrix_read tells them of the whole stream in memory.
+ * Answers where a message ended: 3, 4, 5, 6, 7, 8, 9, 10, 11, 12, in this order; 0 with the opcode as
+ * detail. Never 13: matrix_cable_packed has a dump's packed bytes.
+ * Answers where none ended: 1 after the end was declared; 21 where the bytes taken so far and the feed
+ * are more than MATRIX_CABLE_MOST; 0. Start and end are the bytes taken so far with 1, else 0. With 1
+ * and 21 nothing is taken; with 0 all is.
+ * Written: the reader, which is kept with 1 and 21. The input lies outside it. */
+matrix_fed matrix_cable_feed(matrix_cable *cable, const uint8_t *input, size_t input_len);
+
+/* Declares to a reader that no more comes.
+ * Answers: 2 for a message that is open, which ends by it; 1 where none is open, and where the end was
+ * declared before. The end is the bytes taken so far, and with 1 the start too.
+ * Written: the reader, which is kept where the end was declared before. */
+matrix_fed matrix_cable_end(matrix_cable *cable);
+
+/* The packed bytes, 134 or 172, of the dump that the last call on this reader told of with answer 0;
+ * none, with length 0, where it told of no such dump. They stand in the reader until the next call on
+ * it, an empty feed too; one that answers 21 leaves them. */
+static inline matrix_packed matrix_cable_packed(const matrix_cable *cable)
+{
+    matrix_packed packed;
+    packed.bytes = cable->bytes;
+    packed.length = cable->inside ? 0 : cable->count;
+    return packed;
+}
 
 /* Tests a patch.
  * Answers: 7, 11, 12; 0. No byte is written. */
@@ -411,6 +487,13 @@ static inline matrix_listed matrix_reports_(const uint8_t *s, size_t s_len, size
                           matrix_room_(room, room_len), room_len);
 }
 #define matrix_reports matrix_reports_
+
+static inline matrix_fed matrix_cable_feed_(matrix_cable *cable,
+                                            const uint8_t *input, size_t input_len)
+{
+    return matrix_cable_feed(cable, matrix_input_(input, input_len), input_len);
+}
+#define matrix_cable_feed matrix_cable_feed_
 
 static inline matrix_outcome matrix_test_patch_(const uint8_t *p, size_t p_len)
 {

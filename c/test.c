@@ -677,10 +677,339 @@ static void test_checked_plans(void)
     HOLDS(memcmp(a, kept_a, sizeof a) == 0 && memcmp(b, kept_b, sizeof b) == 0);
 }
 
+/* A call on a reader that tells of a message. */
+static int told(matrix_fed fed, size_t taken, size_t start, size_t end, uint8_t answer, size_t detail)
+{
+    return fed.ended && fed.taken == taken && says(fed.reading.report, start, end, answer, detail);
+}
+
+/* One that tells of none, with this answer and place. */
+static int untold(matrix_fed fed, size_t taken, uint8_t answer, size_t place)
+{
+    return !fed.ended && fed.taken == taken && says(fed.reading.report, place, place, answer, 0)
+           && all_are(fed.reading.bytes, 0, 4, 0);
+}
+
+/* One that takes all of a feed, in which no message ends. */
+static int took_all(matrix_fed fed, size_t taken)
+{
+    return untold(fed, taken, MATRIX_DONE, 0);
+}
+
+static int same_reading(matrix_reading a, matrix_reading b)
+{
+    const matrix_outcome expected = b.report.outcome;
+    return noisy(a.report, b.report.start, b.report.end, b.report.noise)
+           && came_to(a.report.outcome, expected.answer, expected.detail, expected.value)
+           && memcmp(a.bytes, b.bytes, 4) == 0;
+}
+
+static int same_cable(const matrix_cable *a, const matrix_cable *b)
+{
+    return memcmp(a->bytes, b->bytes, sizeof a->bytes) == 0 && a->inside == b->inside
+           && a->over == b->over && a->count == b->count && a->start == b->start
+           && a->noise == b->noise && a->taken == b->taken;
+}
+
+/* The reader gives these packed bytes. */
+static int packs(const matrix_cable *cable, const uint8_t *bytes, size_t length)
+{
+    matrix_packed packed = matrix_cable_packed(cable);
+    return packed.length == length && memcmp(packed.bytes, bytes, length) == 0;
+}
+
+static int packs_none(const matrix_cable *cable)
+{
+    return matrix_cable_packed(cable).length == 0;
+}
+
+/* How many packed bytes come with an outcome. */
+static size_t packed_with(matrix_outcome outcome)
+{
+    if (outcome.answer != MATRIX_DONE)
+        return 0;
+    switch (outcome.detail) {
+    case MATRIX_OPCODE_PATCH:
+    case MATRIX_OPCODE_EDIT_BUFFER:
+        return MATRIX_PATCH_BYTES;
+    case MATRIX_OPCODE_MASTER:
+        return MATRIX_MASTER_BYTES;
+    default:
+        return 0;
+    }
+}
+
+/* A stream fed in pieces, the first with so many bytes, comes to what it comes to in memory. */
+static void feed_pieces(const uint8_t *s, size_t s_len, size_t first, size_t piece)
+{
+    uint8_t buffer[MATRIX_MASTER_BYTES];
+    matrix_cable cable = matrix_cable_fresh();
+    matrix_reading r;
+    matrix_fed fed;
+    size_t at = 0, place = 0, arrived = first;
+
+    for (;;) {
+        fed = matrix_cable_feed(&cable, s + at, arrived - at);
+        at += fed.taken;
+        HOLDS(at <= arrived && cable.taken == at && !cable.over);
+        if (fed.ended) {
+            r = matrix_read(s, s_len, place, buffer, sizeof buffer);
+            place = r.report.end;
+            HOLDS(same_reading(fed.reading, r) && place == at && !cable.inside);
+            HOLDS(fed.reading.report.outcome.answer != MATRIX_NO_ROOM);
+            HOLDS(packs(&cable, buffer, packed_with(r.report.outcome)));
+            continue;
+        }
+        HOLDS(took_all(fed, fed.taken) && at == arrived && packs_none(&cable));
+        HOLDS(cable.count <= MATRIX_MASTER_MESSAGE);
+        if (arrived == s_len)
+            break;
+        arrived = s_len - arrived < piece ? s_len : arrived + piece;
+    }
+    r = matrix_read(s, s_len, place, buffer, sizeof buffer);
+    fed = matrix_cable_end(&cable);
+    HOLDS(fed.ended == (r.report.outcome.answer == MATRIX_CUT) && fed.taken == 0);
+    HOLDS(same_reading(fed.reading, r) && cable.over && packs_none(&cable));
+}
+
+/* Every cut in two, and pieces of every length up to the longest message. */
+static void feed_every_way(const uint8_t *s, size_t s_len)
+{
+    for (size_t first = 0; first <= s_len; first++)
+        feed_pieces(s, s_len, first, s_len);
+    for (size_t piece = 1; piece <= s_len && piece <= MATRIX_MASTER_MESSAGE; piece++)
+        feed_pieces(s, s_len, piece, piece);
+}
+
+static void test_cable(void)
+{
+    static const uint8_t twice[] = {0xF0, 0x10, 0xF0, 0x10, 0x06, 0x06, 0x15, 0x7F, 0xF7};
+    matrix_cable cable = matrix_cable_fresh(), fresh;
+    matrix_fed fed;
+
+    HOLDS(sizeof(matrix_cable) == 392 && alignof(matrix_cable) == 8 && sizeof(matrix_fed) == 64);
+    memset(&fresh, 0, sizeof fresh);
+    HOLDS(same_cable(&cable, &fresh) && packs_none(&cable));
+
+    /* All of it, as often as something is left. */
+    HOLDS(told(matrix_cable_feed(&cable, listed, 11), 3, 1, 3, MATRIX_OTHER_MAKER, 0));
+    fed = matrix_cable_feed(&cable, listed + 3, 8);
+    HOLDS(told(fed, 7, 3, 10, MATRIX_DONE, MATRIX_OPCODE_EDIT));
+    HOLDS(fed.reading.bytes[0] == 0x15 && fed.reading.bytes[1] == 0x7F);
+    HOLDS(all_are(fed.reading.bytes, 2, 4, 0) && packs_none(&cable));
+    HOLDS(took_all(matrix_cable_feed(&cable, listed + 10, 1), 1));
+    HOLDS(cable.inside && cable.start == 10 && cable.count == 0 && cable.taken == 11);
+    HOLDS(told(matrix_cable_end(&cable), 0, 10, 11, MATRIX_CUT, 0));
+
+    /* Byte by byte. */
+    cable = matrix_cable_fresh();
+    for (size_t i = 0; i < sizeof listed; i++) {
+        fed = matrix_cable_feed(&cable, listed + i, 1);
+        HOLDS(i == 2   ? told(fed, 1, 1, 3, MATRIX_OTHER_MAKER, 0)
+              : i == 9 ? told(fed, 1, 3, 10, MATRIX_DONE, MATRIX_OPCODE_EDIT)
+                       : took_all(fed, 1));
+    }
+    HOLDS(told(matrix_cable_end(&cable), 0, 10, 11, MATRIX_CUT, 0));
+
+    /* The F0H that interrupts is fed again: in the same feed, and as the first byte of the next. */
+    cable = matrix_cable_fresh();
+    HOLDS(told(matrix_cable_feed(&cable, twice, sizeof twice), 2, 0, 2, MATRIX_INTERRUPTED, 0));
+    HOLDS(told(matrix_cable_feed(&cable, twice + 2, 7), 7, 2, 9, MATRIX_DONE, MATRIX_OPCODE_EDIT));
+    HOLDS(took_all(matrix_cable_feed(&cable, twice, 2), 2) && cable.inside);
+    HOLDS(told(matrix_cable_feed(&cable, twice + 2, 1), 0, 9, 11, MATRIX_INTERRUPTED, 0));
+    HOLDS(took_all(matrix_cable_feed(&cable, twice + 2, 1), 1) && cable.start == 11);
+    HOLDS(told(matrix_cable_feed(&cable, twice + 3, 6), 6, 11, 18, MATRIX_DONE, MATRIX_OPCODE_EDIT));
+    feed_every_way(listed, sizeof listed);
+    feed_every_way(twice, sizeof twice);
+}
+
+/* Real time inside a message that comes in pieces, and around it. */
+static void test_cable_noise(void)
+{
+    static const uint8_t heard[] = {0xFE, 0xF0, 0x10, 0xF8, 0x06, 0x06, 0xFE,
+                                    0x15, 0x7F, 0xFF, 0xF7, 0xFE, 0xF0, 0xFE};
+    matrix_cable cable = matrix_cable_fresh();
+
+    for (size_t i = 0; i < 10; i++)
+        HOLDS(took_all(matrix_cable_feed(&cable, heard + i, 1), 1));
+    HOLDS(cable.inside && cable.start == 1 && cable.noise == 3 && cable.count == 5);
+    HOLDS(memcmp(cable.bytes, "\x10\x06\x06\x15\x7F", 5) == 0);
+    matrix_fed fed = matrix_cable_feed(&cable, heard + 10, 1);
+    HOLDS(fed.ended && noisy(fed.reading.report, 1, 11, 3));
+    HOLDS(done(fed.reading.report.outcome, MATRIX_OPCODE_EDIT) && cable.noise == 0);
+    HOLDS(took_all(matrix_cable_feed(&cable, heard + 11, 3), 3) && cable.noise == 1);
+    fed = matrix_cable_end(&cable);
+    HOLDS(fed.ended && noisy(fed.reading.report, 12, 14, 1));
+    HOLDS(gave(fed.reading.report.outcome, MATRIX_CUT, 0));
+    feed_every_way(heard, sizeof heard);
+}
+
+/* A message that is too long is followed to its end. */
+static void test_cable_length(void)
+{
+    static uint8_t sent[MATRIX_MASTER_MESSAGE + 1000];
+    const size_t longest = MATRIX_MASTER_MESSAGE, whole = sizeof sent - 1;
+    matrix_cable cable = matrix_cable_fresh();
+
+    memcpy(sent, "\xF0\x10\x06\x03\x03", 5);
+    for (size_t length = longest - 2; length <= longest + 3; length++) {
+        sent[length - 1] = 0xF7;
+        feed_pieces(sent, length, length, length);
+        for (size_t piece = 1; piece < 9; piece++)
+            feed_pieces(sent, length, piece, piece);
+        sent[length - 1] = 0;
+    }
+
+    sent[whole] = 0xF7;
+    HOLDS(took_all(matrix_cable_feed(&cable, sent, 1000), 1000) && cable.count == longest);
+    HOLDS(took_all(matrix_cable_feed(&cable, sent + 1000, whole - 1000), whole - 1000));
+    HOLDS(cable.count == longest && memcmp(cable.bytes, sent + 1, longest) == 0);
+    HOLDS(told(matrix_cable_feed(&cable, sent + whole, 1), 1,
+               0, sizeof sent, MATRIX_WRONG_LENGTH, 0));
+    HOLDS(packs_none(&cable));
+    feed_every_way(sent, sizeof sent);
+}
+
+/* Puts bytes behind others; gives the place behind them. */
+static size_t put(uint8_t *s, size_t at, const void *bytes, size_t length)
+{
+    memcpy(s + at, bytes, length);
+    return at + length;
+}
+
+/* A dump of each kind, good and damaged, noisy, too long and cut off, with other things around. */
+static void test_cable_stream(void)
+{
+    static uint8_t s[4096];
+    uint8_t p[MATRIX_PATCH_BYTES], dump[MATRIX_PATCH_MESSAGE];
+    uint8_t master[MATRIX_MASTER_BYTES], message[MATRIX_MASTER_MESSAGE];
+    size_t at = 0;
+
+    make_p(p);
+    for (size_t i = 0; i < sizeof master; i++)
+        master[i] = (uint8_t)i;
+    HOLDS(done(matrix_write_patch(42, p, sizeof p, dump, sizeof dump), sizeof dump));
+    HOLDS(done(matrix_write_master(master, sizeof master, message, sizeof message), sizeof message));
+
+    at = put(s, at, "\x41\x90\xFE\xF7", 4);
+    at = put(s, at, dump, 100);
+    at = put(s, at, "\xFE\xF8", 2);
+    at = put(s, at, dump + 100, sizeof dump - 100);
+    at = put(s, at, message, sizeof message);
+    at = put(s, at, planned, sizeof planned);
+    at = put(s, at, "\xF0\xF0\xF7\xFE\xF0\x10\x02\xF7\xF0\x10\x06\x02\xF7", 13);
+    at = put(s, at, dump, 200);
+    at = put(s, at, "\x90\x40\x40", 3);
+    at = put(s, at, message, sizeof message - 1);
+    at = put(s, at, "\x01\x02\x03\xFF\xF7", 5);
+    dump[100] = 0x10;
+    at = put(s, at, dump, sizeof dump);
+    make_dump(dump, 105, 0xBF);
+    at = put(s, at, dump, sizeof dump);
+    make_dump(dump, 104, 1);
+    at = put(s, at, dump, sizeof dump);
+    HOLDS(done(matrix_write_edit_buffer(p, sizeof p, dump, sizeof dump), sizeof dump));
+    at = put(s, at, dump, sizeof dump);
+    at = put(s, at, message, 300);
+    HOLDS(at <= sizeof s);
+    feed_every_way(s, at);
+    feed_pieces(s, at - 300, at - 300, 1);
+}
+
+/* Packed bytes stand until the next call that is done. */
+static void test_cable_packed(void)
+{
+    uint8_t p[MATRIX_PATCH_BYTES], dump[MATRIX_PATCH_MESSAGE];
+    uint8_t master[MATRIX_MASTER_BYTES], message[MATRIX_MASTER_MESSAGE];
+    matrix_cable cable = matrix_cable_fresh();
+
+    make_p(p);
+    HOLDS(done(matrix_write_patch(99, p, sizeof p, dump, sizeof dump), sizeof dump));
+    memset(master, 0xFF, sizeof master);
+    HOLDS(done(matrix_write_master(master, sizeof master, message, sizeof message), sizeof message));
+
+    HOLDS(took_all(matrix_cable_feed(&cable, dump, 274), 274) && packs_none(&cable));
+    HOLDS(cable.inside && cable.count == 273 && memcmp(cable.bytes, dump + 1, 273) == 0);
+    HOLDS(took_all(matrix_cable_feed(&cable, NULL, 0), 0) && cable.inside && cable.count == 273);
+    matrix_fed fed = matrix_cable_feed(&cable, dump + 274, 1);
+    HOLDS(told(fed, 1, 0, 275, MATRIX_DONE, MATRIX_OPCODE_PATCH));
+    HOLDS(fed.reading.bytes[0] == 99 && all_are(fed.reading.bytes, 1, 4, 0));
+    HOLDS(packs(&cable, p, sizeof p) && matrix_cable_packed(&cable).bytes == cable.bytes);
+    HOLDS(all_are(cable.bytes, sizeof p, sizeof cable.bytes, 0));
+    matrix_cable copy = cable;
+    HOLDS(took_all(matrix_cable_feed(&cable, NULL, 0), 0) && packs_none(&cable));
+    HOLDS(cable.taken == 275 && packs(&copy, p, sizeof p));
+
+    /* The next message, complete or open, a refused one, and the end. */
+    HOLDS(told(matrix_cable_feed(&copy, message, sizeof message), sizeof message,
+               275, 626, MATRIX_DONE, MATRIX_OPCODE_MASTER));
+    HOLDS(packs(&copy, master, sizeof master));
+    cable = copy;
+    HOLDS(took_all(matrix_cable_feed(&cable, dump, 1), 1) && packs_none(&cable) && cable.inside);
+    cable = copy;
+    HOLDS(took_all(matrix_cable_feed(&cable, dump + 1, 1), 1) && packs_none(&cable));
+    cable = copy;
+    message[349] ^= 1;
+    HOLDS(told(matrix_cable_feed(&cable, message, sizeof message), sizeof message,
+               626, 977, MATRIX_WRONG_SUM, 0));
+    HOLDS(packs_none(&cable));
+    HOLDS(untold(matrix_cable_end(&copy), 0, MATRIX_NO_MESSAGE, 626) && packs_none(&copy));
+}
+
+/* After the end nothing changes any more. */
+static void test_cable_end(void)
+{
+    matrix_cable cable = matrix_cable_fresh(), over;
+
+    HOLDS(untold(matrix_cable_end(&cable), 0, MATRIX_NO_MESSAGE, 0) && cable.over);
+    cable = matrix_cable_fresh();
+    HOLDS(told(matrix_cable_feed(&cable, listed, 3), 3, 1, 3, MATRIX_OTHER_MAKER, 0));
+    over = cable;
+    HOLDS(untold(matrix_cable_end(&over), 0, MATRIX_NO_MESSAGE, 3) && over.over);
+    HOLDS(took_all(matrix_cable_feed(&cable, listed + 3, 6), 6) && cable.inside);
+    HOLDS(told(matrix_cable_end(&cable), 0, 3, 9, MATRIX_CUT, 0));
+    HOLDS(cable.over && !cable.inside && cable.taken == 9 && packs_none(&cable));
+    over = cable;
+    for (size_t length = 0; length <= sizeof listed; length++)
+        HOLDS(untold(matrix_cable_feed(&cable, listed, length), 0, MATRIX_NO_MESSAGE, 9));
+    HOLDS(untold(matrix_cable_end(&cable), 0, MATRIX_NO_MESSAGE, 9));
+    HOLDS(same_cable(&cable, &over));
+}
+
+/* At the most bytes that are taken. */
+static void test_cable_most(void)
+{
+    const size_t most = MATRIX_CABLE_MOST;
+    uint8_t p[MATRIX_PATCH_BYTES], dump[MATRIX_PATCH_MESSAGE + 2] = {0};
+    matrix_cable cable = matrix_cable_fresh(), kept;
+
+    make_p(p);
+    HOLDS(done(matrix_write_patch(0, p, sizeof p, dump, sizeof dump), 275));
+    cable.taken = most - 276;
+    kept = cable;
+    HOLDS(untold(matrix_cable_feed(&cable, dump, 277), 0, MATRIX_TOO_MANY, 0));
+    HOLDS(same_cable(&cable, &kept));
+    HOLDS(told(matrix_cable_feed(&cable, dump, 276), 275,
+               most - 276, most - 1, MATRIX_DONE, MATRIX_OPCODE_PATCH));
+
+    /* Refused, it keeps the packed bytes too; a message open at the limit, it still ends. */
+    kept = cable;
+    HOLDS(untold(matrix_cable_feed(&cable, dump, 2), 0, MATRIX_TOO_MANY, 0));
+    HOLDS(same_cable(&cable, &kept) && packs(&cable, p, sizeof p));
+    HOLDS(took_all(matrix_cable_feed(&cable, dump, 1), 1) && cable.taken == most);
+    kept = cable;
+    HOLDS(untold(matrix_cable_feed(&cable, dump + 1, 1), 0, MATRIX_TOO_MANY, 0));
+    HOLDS(untold(matrix_cable_feed(&cable, dump + 1, 200), 0, MATRIX_TOO_MANY, 0));
+    HOLDS(took_all(matrix_cable_feed(&cable, NULL, 0), 0) && same_cable(&cable, &kept));
+    HOLDS(told(matrix_cable_end(&cable), 0, most - 1, most, MATRIX_CUT, 0));
+    HOLDS(untold(matrix_cable_feed(&cable, dump, 1), 0, MATRIX_NO_MESSAGE, most));
+}
+
 /* An empty slice at NULL is an empty slice. */
 static void test_null(void)
 {
     uint8_t p[MATRIX_PATCH_BYTES], one[1] = {FILL_BYTE};
+    matrix_cable cable = matrix_cable_fresh();
 
     make_p(p);
     HOLDS(says(matrix_walk(NULL, 0, 0), 0, 0, MATRIX_NO_MESSAGE, 0));
@@ -690,6 +1019,7 @@ static void test_null(void)
                3, 10, MATRIX_DONE, MATRIX_OPCODE_EDIT));
     HOLDS(matrix_reports(NULL, 0, 0, NULL, 0).count == 0);
     HOLDS(matrix_reports(listed, sizeof listed, 2, NULL, 0).next == 2);
+    HOLDS(took_all(matrix_cable_feed(&cable, NULL, 0), 0) && cable.taken == 0);
     HOLDS(gave(matrix_test_patch(NULL, 0), MATRIX_WRONG_LENGTH, 0));
     HOLDS(gave(matrix_value_of(NULL, 0, 1).outcome, MATRIX_WRONG_LENGTH, 0));
     HOLDS(gave(matrix_value_of(NULL, 0, 39).outcome, MATRIX_NOT_ALLOWED, 0));
@@ -738,6 +1068,13 @@ int main(void)
     test_longest_plan();
     test_refused_plans();
     test_checked_plans();
+    test_cable();
+    test_cable_noise();
+    test_cable_length();
+    test_cable_stream();
+    test_cable_packed();
+    test_cable_end();
+    test_cable_most();
     test_null();
     printf("c: %u checks hold\n", checks);
     return EXIT_SUCCESS;

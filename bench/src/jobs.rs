@@ -7,7 +7,7 @@ use compare::ffi::{self, A_CALL};
 use compare::word;
 use reference::streams::plans::{self, Pair};
 use reference::streams::{inputs, Random};
-use reference::{parameter_of, BANK_PATCHES, LONGEST_PLAN, PATCH_LENGTH};
+use reference::{parameter_of, CableReader, Fed, BANK_PATCHES, LONGEST_PLAN, PATCH_LENGTH};
 
 /// A job in both ways.
 pub struct Job {
@@ -31,7 +31,7 @@ const MANY: usize = 100;
 /// How many edits make a patch another in every parameter and every bus.
 const PARTS: usize = 96 + 10;
 
-pub fn all() -> [Job; 13] {
+pub fn all() -> [Job; 18] {
     let mut random = Random::new(SEED);
     let bank = good_patches(&mut random, BANK_PATCHES);
     let banks: Vec<u8> = bank_dumps(&bank).into_iter().cycle().take(BANKS).collect();
@@ -50,9 +50,14 @@ pub fn all() -> [Job; 13] {
         reports("reports-banks", banks.clone()),
         reports("reports-sensing-16", seldom),
         reports("reports-sensing-3", often),
-        reports("reports-noise", noise),
+        reports("reports-noise", noise.clone()),
         reports("reports-starts", starts),
-        read(banks),
+        read(banks.clone()),
+        cable("cable-dumps-1", banks.clone(), 1),
+        cable("cable-dumps-16", banks.clone(), 16),
+        cable("cable-dumps-256", banks.clone(), 256),
+        cable("cable-dumps-4096", banks, 4096),
+        cable("cable-noise-16", noise, 16),
         test_patch(patches),
         values(patch),
         write_bank(bank),
@@ -152,6 +157,47 @@ fn read(input: Vec<u8>) -> Job {
                 all = add(all, places ^ outcome ^ usize::from(first));
                 place = r.end;
             }
+        }),
+    }
+}
+
+/// A stream straight from the cable in pieces of one size, bytes not taken being fed again. Every packed
+/// byte of a dump is read.
+fn cable(name: &'static str, input: Vec<u8>, size: usize) -> Job {
+    let other = input.clone();
+    Job {
+        name,
+        amount: input.len(),
+        unit: "MB/s",
+        library: Box::new(move || {
+            let mut record = ffi::cable_fresh();
+            let mut all = 0;
+            for mut piece in black_box(input.as_slice()).chunks(size) {
+                while !piece.is_empty() {
+                    let fed = ffi::cable_feed(&mut record, piece);
+                    piece = &piece[fed.taken..];
+                    if fed.ended {
+                        let packed = added(&record.bytes[..record.count]);
+                        all = add(all, reading(fed.reading) ^ packed);
+                    }
+                }
+            }
+            add(all, reading(ffi::cable_end(&mut record).reading))
+        }),
+        plain: Box::new(move || {
+            let mut reader = CableReader::new();
+            let mut all = 0;
+            for mut piece in black_box(other.as_slice()).chunks(size) {
+                while !piece.is_empty() {
+                    let fed = reader.feed(piece);
+                    piece = &piece[fed.taken..];
+                    if fed.ended {
+                        let packed = added(reader.packed());
+                        all = add(all, plain_reading(fed) ^ packed);
+                    }
+                }
+            }
+            add(all, plain_reading(reader.end()))
         }),
     }
 }
@@ -336,6 +382,31 @@ fn library(outcome: ffi::Outcome) -> usize {
 /// The second program's.
 fn plain(outcome: reference::Outcome) -> usize {
     one(outcome.answer, outcome.detail, outcome.value)
+}
+
+/// What the library tells of a message as one number.
+fn reading(reading: ffi::Reading) -> usize {
+    let ffi::Report {
+        start,
+        end,
+        outcome,
+        noise,
+    } = reading.report;
+    let [first, ..] = reading.bytes;
+    start ^ end ^ library(outcome) ^ noise ^ usize::from(first)
+}
+
+/// What the second program's reader tells of it.
+fn plain_reading(fed: Fed) -> usize {
+    let r = fed.report;
+    let [first, ..] = fed.bytes;
+    let outcome = one(r.answer, r.detail, r.value);
+    r.start ^ r.end ^ outcome ^ r.noise ^ usize::from(first)
+}
+
+/// All bytes added up.
+fn added(bytes: &[u8]) -> usize {
+    bytes.iter().map(|&byte| usize::from(byte)).sum()
 }
 
 /// Adds a patch's bytes to the results.

@@ -2,12 +2,12 @@
 //!
 //!     bench [--quick]
 //!
-//! For each job a line with the throughput of both, and a line `ratio NAME X`: the library's median
-//! time on the processor over plain Rust's. Both are built for release, for the same processor
-//! (x86-64 without extensions where nothing else is set). Both get the same input and buffers of the
-//! same length, which are touched before the first round and not cleared between calls. Answers and
-//! bytes of what was written are used, and both programs' results are held against each other before
-//! anything is timed.
+//! For each job a line with the throughput of both, and where that is of bytes the time for each; then
+//! a line `ratio NAME X`: the library's median time on the processor over plain Rust's. Both are built
+//! for release, for the same processor (x86-64 without extensions where nothing else is set). Both get
+//! the same input and buffers of the same length, which are touched before the first round and not
+//! cleared between calls. Answers and bytes of what was written are used, and both programs' results
+//! are held against each other before anything is timed.
 
 mod jobs;
 
@@ -83,10 +83,16 @@ fn measure(job: &mut Job, effort: &Effort) {
         name, amount, unit, ..
     } = job;
     let rate = |seconds: f64| *amount as f64 / seconds / 1e6;
+    let each = |seconds: f64| match *unit {
+        "MB/s" => format!(" ({:.2} ns a byte)", seconds * 1e9 / *amount as f64),
+        _ => String::new(),
+    };
     println!(
-        "{name}: library {:.1} {unit}, plain Rust {:.1} {unit}",
+        "{name}: library {:.1} {unit}{}, plain Rust {:.1} {unit}{}",
         rate(library),
-        rate(plain)
+        each(library),
+        rate(plain),
+        each(plain)
     );
     println!("ratio {name} {:.2}", library / plain);
 }

@@ -27,6 +27,7 @@ pub fn call(random: &mut Random) -> Call {
         place: 0,
         bytes: [0; 4],
         third: Lent::filled(random, 0),
+        run: None,
     }
 }
 
@@ -55,7 +56,7 @@ fn stream(random: &mut Random) -> Stream {
 }
 
 /// A stream with real time among all its bytes, seldom or many behind each.
-fn noisy(random: &mut Random) -> Stream {
+pub fn noisy_stream(random: &mut Random) -> Vec<u8> {
     let seldom = random.within(2..=8);
     let mut input = Vec::new();
     for byte in streams::stream(random.draw()) {
@@ -64,6 +65,11 @@ fn noisy(random: &mut Random) -> Stream {
             input.push(random.byte_within(0xF8..=0xFF));
         }
     }
+    input
+}
+
+fn noisy(random: &mut Random) -> Stream {
+    let input = noisy_stream(random);
     placed(random, input)
 }
 

@@ -61,6 +61,7 @@ fn lent(random: &mut Random, bytes: &[u8]) -> Call {
         place: 0,
         bytes: [random.byte_within(0..=9), 1, random.byte_within(0..=127), 1],
         third: Lent::filled(random, 0),
+        run: None,
     }
 }
 

@@ -4,8 +4,7 @@ use std::fmt;
 
 use reference::streams::Random;
 
-/// How many elements stand behind each slice, and at least as many before it.
-const GUARD: usize = 16;
+use crate::cable::Run;
 
 /// A slice with guards on both sides, at any alignment. Two are the same only if their guards are too.
 #[derive(Clone, PartialEq, Eq)]
@@ -17,10 +16,10 @@ pub struct Lent<T> {
 impl<T: Copy + Fill> Lent<T> {
     /// Lends these elements.
     pub fn new(random: &mut Random, elements: &[T]) -> Self {
-        let start = GUARD + random.below(GUARD);
+        let start = T::GUARD + random.below(T::GUARD);
         let mut whole: Vec<T> = (0..start).map(|_| T::fill(random)).collect();
         whole.extend_from_slice(elements);
-        whole.extend((0..GUARD).map(|_| T::fill(random)));
+        whole.extend((0..T::GUARD).map(|_| T::fill(random)));
         Self { whole, start }
     }
 
@@ -32,18 +31,28 @@ impl<T: Copy + Fill> Lent<T> {
 
     /// The slice.
     pub fn get(&self) -> &[T] {
-        &self.whole[self.start..self.whole.len() - GUARD]
+        &self.whole[self.start..self.whole.len() - T::GUARD]
     }
 
     /// The slice, to be written.
     pub fn get_mut(&mut self) -> &mut [T] {
-        let end = self.whole.len() - GUARD;
+        let end = self.whole.len() - T::GUARD;
         &mut self.whole[self.start..end]
+    }
+
+    /// What stands before the slice, the slice, and what stands behind it.
+    pub fn parts(&self) -> [&[T]; 3] {
+        let (before, rest) = self.whole.split_at(self.start);
+        let (slice, behind) = rest.split_at(rest.len() - T::GUARD);
+        [before, slice, behind]
     }
 }
 
 /// Elements that a slice can be filled with before it is lent.
 pub trait Fill: Sized {
+    /// How many of them stand behind each slice, and at least as many before it.
+    const GUARD: usize = 16;
+
     /// Any element.
     fn fill(random: &mut Random) -> Self;
 }
@@ -62,24 +71,21 @@ impl Fill for usize {
 
 impl fmt::Debug for Lent<u8> {
     fn fmt(&self, f: &mut fmt::Formatter<'_>) -> fmt::Result {
-        let hex = |f: &mut fmt::Formatter<'_>, bytes: &[u8]| {
-            bytes.iter().try_for_each(|byte| write!(f, "{byte:02X}"))
-        };
-        let end = self.whole.len() - GUARD;
-        hex(f, &self.whole[..self.start])?;
-        f.write_str(" [")?;
-        hex(f, self.get())?;
-        f.write_str("] ")?;
-        hex(f, &self.whole[end..])
+        let [before, slice, behind] = self.parts().map(hex);
+        write!(f, "{before} [{slice}] {behind}")
     }
 }
 
 impl fmt::Debug for Lent<usize> {
     fn fmt(&self, f: &mut fmt::Formatter<'_>) -> fmt::Result {
-        let end = self.whole.len() - GUARD;
-        let (before, behind) = (&self.whole[..self.start], &self.whole[end..]);
-        write!(f, "{before:?} [{:?}] {behind:?}", self.get())
+        let [before, slice, behind] = self.parts();
+        write!(f, "{before:?} [{slice:?}] {behind:?}")
     }
+}
+
+/// Bytes as they are printed.
+pub fn hex(bytes: &[u8]) -> String {
+    bytes.iter().map(|byte| format!("{byte:02X}")).collect()
 }
 
 /// All that a call is given.
@@ -97,6 +103,8 @@ pub struct Call {
     pub place: usize,
     /// A patch number, or an edit's bytes.
     pub bytes: [u8; 4],
+    /// A reader straight from the cable, which is fed what is read first.
+    pub run: Option<Box<Run>>,
 }
 
 impl fmt::Display for Call {
@@ -105,6 +113,7 @@ impl fmt::Display for Call {
         writeln!(f, "    second  {:?}", self.second)?;
         writeln!(f, "    third   {:?}", self.third)?;
         writeln!(f, "    room    {:?}", self.room)?;
-        write!(f, "    place {}, bytes {:02X?}", self.place, self.bytes)
+        write!(f, "    place {}, bytes {:02X?}", self.place, self.bytes)?;
+        self.run.iter().try_for_each(|run| write!(f, "\n{run}"))
     }
 }

@@ -4,6 +4,9 @@
 //! as many bytes taken as inputs of 64 KiB, one after the other. Rounds take turns, and the least of
 //! each counts, in time on the processor, since whatever else runs on the machine can only add to it.
 //! How fast one input of 64 KiB is that stays in the cache is printed beside them.
+//!
+//! Some inputs come straight from the cable too, in pieces of 4,096 bytes, and the first eighth of them
+//! in pieces of one. Behind each call both programs have told the same and left the same record.
 
 use std::fs;
 use std::hint::black_box;
@@ -15,6 +18,8 @@ use reference::answers::NO_MESSAGE;
 use reference::streams::{inputs, Random};
 use reference::BANK_PATCHES;
 
+use crate::cable::Both;
+
 /// The size of the short inputs.
 const SHORT: usize = 1 << 16;
 /// By how much time per byte may grow.
@@ -23,6 +28,10 @@ const MOST_GROWTH: f64 = 1.3;
 const MEASURES: usize = 3;
 /// What the random inputs depend on.
 const SEED: u64 = 1000;
+/// The size of the pieces that come from the cable.
+const PIECE: usize = 1 << 12;
+/// Which part of an input comes from the cable in pieces of one byte.
+const ONE_BY_ONE: usize = 8;
 
 /// A kind of long input.
 struct Kind {
@@ -30,37 +39,48 @@ struct Kind {
     make: fn(usize) -> Vec<u8>,
     /// What is done to each input of 64 KiB cut from the long one.
     shorten: fn(&mut [u8]),
+    /// Which part of it is timed from the cable, if it comes from there: the whole, or less of an input
+    /// with many messages.
+    cable: Option<usize>,
 }
 
-static KINDS: [Kind; 7] = [
+static KINDS: [Kind; 8] = [
     Kind {
         name: "F0H only",
         make: |size| vec![0xF0; size],
         shorten: |_| {},
+        cable: Some(8),
     },
     Kind {
         name: "00H only",
-        make: |size| vec![0x00; size],
+        // Written, since memory that comes zeroed from the system is one page again and again.
+        make: |size| [0x00].repeat(size),
         shorten: |_| {},
+        cable: None,
+    },
+    Kind {
+        name: "F0H, then 7FH",
+        make: |size| behind_one_start(0x7F, size),
+        shorten: |input| input[0] = 0xF0,
+        cable: Some(1),
     },
     Kind {
         name: "F0H, then FEH",
-        make: |size| {
-            let mut input = vec![0xFE; size];
-            input[0] = 0xF0;
-            input
-        },
+        make: |size| behind_one_start(0xFE, size),
         shorten: |input| input[0] = 0xF0,
+        cable: Some(1),
     },
     Kind {
         name: "F0H and FEH in turn",
         make: |size| [0xF0, 0xFE].repeat(size / 2),
         shorten: |_| {},
+        cable: None,
     },
     Kind {
         name: "banks",
         make: banks,
         shorten: |_| {},
+        cable: Some(1),
     },
     Kind {
         name: "banks, FEH behind every 16th byte",
@@ -70,6 +90,7 @@ static KINDS: [Kind; 7] = [
             input
         },
         shorten: |_| {},
+        cable: None,
     },
     Kind {
         name: "random bytes",
@@ -78,8 +99,15 @@ static KINDS: [Kind; 7] = [
             inputs::bytes(&mut random, size)
         },
         shorten: |_| {},
+        cable: None,
     },
 ];
+
+fn behind_one_start(byte: u8, size: usize) -> Vec<u8> {
+    let mut input = vec![byte; size];
+    input[0] = 0xF0;
+    input
+}
 
 /// Banks of a hundred good patches end to end, the last one cut.
 fn banks(size: usize) -> Vec<u8> {
@@ -114,26 +142,52 @@ fn by_reports(input: &[u8], each: &mut dyn FnMut(&Flat) -> bool) {
 fn by_walk(input: &[u8], each: &mut dyn FnMut(&Flat) -> bool) {
     let mut place = 0;
     loop {
-        let ffi::Report {
-            start,
-            end,
-            outcome,
-            noise,
-        } = ffi::walk(input, place);
-        let ffi::Outcome {
-            answer,
-            value,
-            detail,
-        } = outcome;
-        let numbers = [start, end, answer.into(), detail, word(value), noise];
-        if answer == NO_MESSAGE || !each(&numbers) {
+        let report = ffi::walk(input, place);
+        if report.outcome.answer == NO_MESSAGE || !each(&numbers(report)) {
             return;
         }
-        place = end;
+        place = report.end;
     }
 }
 
-const WAYS: [(&str, Through); 2] = [("reports", by_reports), ("walk", by_walk)];
+/// Straight from the cable.
+fn by_cable(input: &[u8], each: &mut dyn FnMut(&Flat) -> bool) {
+    let mut record = ffi::cable_fresh();
+    for mut piece in input.chunks(PIECE) {
+        while !piece.is_empty() {
+            let fed = ffi::cable_feed(&mut record, piece);
+            if fed.ended && !each(&numbers(fed.reading.report)) {
+                return;
+            }
+            piece = &piece[fed.taken..];
+        }
+    }
+    let fed = ffi::cable_end(&mut record);
+    if fed.ended {
+        each(&numbers(fed.reading.report));
+    }
+}
+
+fn numbers(report: ffi::Report) -> Flat {
+    let ffi::Report {
+        start,
+        end,
+        outcome,
+        noise,
+    } = report;
+    let ffi::Outcome {
+        answer,
+        value,
+        detail,
+    } = outcome;
+    [start, end, answer.into(), detail, word(value), noise]
+}
+
+/// A way with its name.
+type Way = (&'static str, Through);
+
+const WAYS: [Way; 2] = [("reports", by_reports), ("walk", by_walk)];
+const CABLE: Way = ("cable", by_cable);
 
 /// Whether the library's reports are the second program's; how many there are.
 fn agree(input: &[u8], through: Through) -> Option<usize> {
@@ -214,32 +268,74 @@ pub fn run(mebibytes: usize) -> bool {
     println!(
         "ns per byte: at {mebibytes} MiB, at 64 KiB from memory, growth; at 64 KiB from the cache"
     );
+    println!("of F0H only by cable an eighth is timed");
     let mut held = true;
     for kind in &KINDS {
         let input = (kind.make)(size);
         let mut short = input.clone();
         short.chunks_mut(SHORT).for_each(kind.shorten);
-        for (way, through) in WAYS {
-            let Some(count) = agree(&input, through) else {
-                println!("{}, by {way}: the programs differ", kind.name);
+        for way in WAYS {
+            let Some(good) = row(kind, way, [&input, &short], 1, rounds) else {
                 return false;
             };
-            let figures = measured(&input, &short, through, rounds);
-            let [long, from_memory, from_cache] = figures;
-            let growth = growth(figures);
-            let verdict = if growth <= MOST_GROWTH {
-                ""
-            } else {
-                " TOO MUCH"
+            held &= good;
+        }
+        if let Some(part) = kind.cable {
+            let Some(good) = cable_row(kind, [&input, &short], part, rounds) else {
+                return false;
             };
-            held &= growth <= MOST_GROWTH;
-            println!(
-                "{:<20} by {way:<8} {count:>9} reports the same  {long:8.3} {from_memory:8.3}  x{growth:.2}{verdict}  {from_cache:8.3}",
-                kind.name
-            );
+            held &= good;
         }
     }
     held
+}
+
+/// Compares a way on an input and times it on a part of that; whether its time grows little enough, or
+/// none where the programs differ.
+fn row(
+    kind: &Kind,
+    (way, through): Way,
+    [input, short]: [&[u8]; 2],
+    part: usize,
+    rounds: usize,
+) -> Option<bool> {
+    let name = kind.name;
+    let Some(count) = agree(input, through) else {
+        println!("{name}, by {way}: the programs differ");
+        return None;
+    };
+    let timed = input.len() / part;
+    let figures = measured(&input[..timed], &short[..timed], through, rounds);
+    let [long, from_memory, from_cache] = figures;
+    let growth = growth(figures);
+    let good = growth <= MOST_GROWTH;
+    let verdict = if good { "" } else { " TOO MUCH" };
+    println!(
+        "{name:<20} by {way:<8} {count:>9} reports the same  {long:8.3} {from_memory:8.3}  x{growth:.2}{verdict}  {from_cache:8.3}"
+    );
+    Some(good)
+}
+
+/// The same from the cable, where what both programs tell and leave is compared call by call too.
+fn cable_row(kind: &Kind, inputs: [&[u8]; 2], part: usize, rounds: usize) -> Option<bool> {
+    let [input, _] = inputs;
+    for (input, size) in [(input, PIECE), (&input[..input.len() / ONE_BY_ONE], 1)] {
+        let mut both = Both::fresh();
+        let mut messages = 0;
+        let same = both.feed_all(input.chunks(size), |_, _| messages += 1);
+        let verdict = match same {
+            None => "the programs differ",
+            Some(()) if messages == 0 => "nothing to compare: no message",
+            Some(()) => "the same",
+        };
+        let (name, bytes, calls) = (kind.name, input.len(), both.calls);
+        println!("{name:<20} from the cable by {size}: {bytes} bytes, {calls} calls, {messages} messages: {verdict}");
+        if messages == 0 {
+            return None;
+        }
+        same?;
+    }
+    row(kind, CABLE, inputs, part, rounds)
 }
 
 /// The soft limit of the stack, as the system has it.

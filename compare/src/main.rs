@@ -1,6 +1,7 @@
 //! Compares every exported routine of the library with the second program, byte for byte.
 //!
-//!     compare [COUNT] [SEED]     COUNT inputs for each routine (3,000), from SEED on (0)
+//!     compare [COUNT] [SEED]     COUNT inputs for each routine (3,000), from SEED on (0); then short
+//!                                streams straight from the cable, cut at every place
 //!     compare long [MIB]         reports and growth on inputs of MIB mebibytes (64)
 //!     compare stack [COUNT]      how deep each routine's stack goes, on COUNT inputs each (1,000)
 //!     compare routines           the names of the routines that are compared
@@ -8,7 +9,10 @@
 //! Input number i of a routine is made from seed SEED + i alone. A difference prints that seed, all
 //! that was lent, and what either program returned and left, and ends the run with status 1.
 
+mod cable;
 mod calls;
+mod cuts;
+mod feeds;
 mod found;
 mod lent;
 mod long;
@@ -23,7 +27,7 @@ use std::process::{self, ExitCode};
 
 use lent::Call;
 use reference::streams::Random;
-use routines::{Routine, Source, ROUTINES};
+use routines::{Returned, Routine, Source, ROUTINES};
 
 /// The number of inputs for each routine where the command line names none.
 const COUNT: usize = 3_000;
@@ -70,9 +74,8 @@ fn stop(why: &str) -> ! {
 
 fn compare(count: usize, first_seed: u64) -> bool {
     println!("{count} inputs for each routine, seeds from {first_seed} on");
-    ROUTINES
-        .iter()
-        .all(|routine| compare_routine(routine, count, first_seed))
+    let same = |routine| compare_routine(routine, count, first_seed);
+    ROUTINES.iter().all(same) && cuts::run()
 }
 
 fn compare_routine(routine: &Routine, count: usize, first_seed: u64) -> bool {
@@ -88,13 +91,24 @@ fn compare_routine(routine: &Routine, count: usize, first_seed: u64) -> bool {
             Source::Any(make) => make(&mut random),
             Source::Every(_, make) => make(&mut random, index),
         };
-        let Some(first) = compare_call(routine, &call) else {
+        let Some(same) = compare_call(routine, &call) else {
             println!("  seed {seed}, index {index}");
             return false;
         };
-        *returned.entry(first).or_default() += 1;
+        for &known_by in same.known_by() {
+            *returned.entry(known_by).or_default() += 1;
+        }
     }
-    print!("{routine}: {count} inputs the same; returned");
+    let calls: usize = returned.values().sum();
+    if calls < count {
+        println!("{routine}: {count} inputs and {calls} calls, so nothing was compared for some");
+        return false;
+    }
+    print!("{routine}: {count} inputs the same");
+    if calls > count {
+        print!(", {calls} calls");
+    }
+    print!("; returned");
     match returned.len() {
         0..=16 => returned
             .iter()
@@ -105,13 +119,16 @@ fn compare_routine(routine: &Routine, count: usize, first_seed: u64) -> bool {
     true
 }
 
-/// The first number that both programs return, or none and a print where something differs.
-fn compare_call(routine: &Routine, call: &Call) -> Option<usize> {
+/// What both programs return, or none and a print where something differs.
+fn compare_call(routine: &Routine, call: &Call) -> Option<Returned> {
     let (mut library, mut expected) = (call.clone(), call.clone());
     let returned = (routine.library)(&mut library);
     let expected_return = (routine.expected)(&mut expected);
     if returned == expected_return && library == expected {
-        return Some(returned.first());
+        return Some(returned);
+    }
+    if let (Some(library), Some(expected)) = (&mut library.run, &mut expected.run) {
+        library.keep_difference(expected);
     }
     println!("{routine}: the programs differ");
     println!("  given\n{call}");

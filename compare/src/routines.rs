@@ -7,7 +7,9 @@ use compare::word;
 use reference::answers::NO_MESSAGE;
 use reference::streams::Random;
 
+use crate::cable;
 use crate::calls;
+use crate::feeds;
 use crate::found;
 use crate::lent::Call;
 use crate::pairs;
@@ -67,23 +69,39 @@ impl fmt::Display for Routine {
     }
 }
 
-/// What a call returns, as numbers; the answer, or what else it is known by, first.
+/// What a call returns, as numbers; the answer, or what else it is known by, first. Of several calls
+/// what each is known by.
 #[derive(Debug, PartialEq, Eq)]
-pub struct Returned(Vec<usize>);
+pub struct Returned {
+    numbers: Vec<usize>,
+    calls: usize,
+}
 
 impl Returned {
-    /// The answer, count, place or parameter.
-    pub fn first(&self) -> usize {
-        self.0[0]
+    const fn new(numbers: Vec<usize>) -> Self {
+        Self { numbers, calls: 1 }
+    }
+
+    /// The answers of calls one after the other.
+    pub const fn of_calls(answers: Vec<usize>) -> Self {
+        Self {
+            calls: answers.len(),
+            numbers: answers,
+        }
+    }
+
+    /// The answer, count, place or parameter of each call.
+    pub fn known_by(&self) -> &[usize] {
+        &self.numbers[..self.calls]
     }
 
     /// What an outcome has.
     fn outcome(answer: u8, detail: usize, value: i16) -> Self {
-        Self(vec![answer.into(), detail, word(value)])
+        Self::new(vec![answer.into(), detail, word(value)])
     }
 
     fn and(mut self, more: impl IntoIterator<Item = usize>) -> Self {
-        self.0.extend(more);
+        self.numbers.extend(more);
         self
     }
 }
@@ -143,13 +161,30 @@ impl From<ffi::Held> for Returned {
 
 impl From<ffi::Listed> for Returned {
     fn from(ffi::Listed { count, next }: ffi::Listed) -> Self {
-        Self(vec![count, next])
+        Self::new(vec![count, next])
+    }
+}
+
+/// A record is known by the bytes taken.
+impl From<ffi::Cable> for Returned {
+    fn from(record: ffi::Cable) -> Self {
+        let ffi::Cable {
+            bytes,
+            inside,
+            over,
+            count,
+            start,
+            noise,
+            taken,
+        } = record;
+        let numbers = vec![taken, inside.into(), over.into(), count, start, noise];
+        Self::new(numbers).and(bytes.map(usize::from))
     }
 }
 
 impl From<u8> for Returned {
     fn from(number: u8) -> Self {
-        Self(vec![number.into()])
+        Self::new(vec![number.into()])
     }
 }
 
@@ -253,7 +288,7 @@ fn reports(call: &mut Call) -> Returned {
         place = report.end;
         made += 1;
     }
-    Returned(vec![made, place])
+    Returned::new(vec![made, place])
 }
 
 const WALK: Routine = Routine {
@@ -278,6 +313,22 @@ const REPORTS: Routine = Routine {
     source: Source::Any(calls::reports_from),
     library: |c| ffi::reports(c.first.get(), c.place, c.room.get_mut()).into(),
     expected: reports,
+};
+
+const CABLE_FEED: Routine = Routine {
+    name: "cable_feed",
+    inputs: "",
+    source: Source::Any(feeds::feed),
+    library: cable::library,
+    expected: cable::expected,
+};
+
+const CABLE_END: Routine = Routine {
+    name: "cable_end",
+    inputs: "",
+    source: Source::Any(feeds::end),
+    library: cable::library,
+    expected: cable::expected,
 };
 
 const TEST_PATCH: Routine = Routine {
@@ -410,6 +461,11 @@ const CHECK_PLAN: Routine = Routine {
 /// What the inputs are called that have real time among all their bytes.
 const NOISY: &str = ", among real time";
 
+/// What readers straight from the cable are called that have taken about as many bytes as they may, and
+/// those whose records no call leaves.
+const NEAR_LIMIT: &str = ", near the limit";
+const STRANGE: &str = ", records that no call leaves";
+
 /// What slipped neighbours are called.
 const EXCHANGED: &str = ", every pair of neighbours exchanged";
 const REPLACED: &str = ", every pair of values for a byte's nibbles";
@@ -425,7 +481,7 @@ const BUS_EDITS: &str = ", every bus, source and destination";
 /// What pairs are called that differ in one byte or in none.
 const CHANGED: &str = ", every byte at every place of either patch";
 
-pub static ROUTINES: [Routine; 61] = [
+pub static ROUTINES: [Routine; 71] = [
     WALK,
     WALK.on(NOISY, Source::Any(calls::walk_noisy)),
     WALK.on_every(SENT, 2 << 14, calls::every_edit_sent),
@@ -443,6 +499,26 @@ pub static ROUTINES: [Routine; 61] = [
     REPORTS.finding(found::in_dump),
     REPORTS.on_every(EXCHANGED, slips::EXCHANGES, slips::report_exchange),
     REPORTS.on_every(REPLACED, slips::PAIRS, slips::report_pair),
+    Routine {
+        name: "cable_fresh",
+        inputs: "",
+        source: Source::Any(calls::call),
+        library: |_| ffi::cable_fresh().into(),
+        expected: |_| cable::record_of(&reference::CableReader::new()).into(),
+    },
+    CABLE_FEED,
+    CABLE_FEED.on(NOISY, Source::Any(feeds::feed_noisy)),
+    CABLE_FEED.on_every(
+        ", every kind of stream and of cutting",
+        feeds::KINDS,
+        feeds::feed_kind,
+    ),
+    CABLE_FEED.on(NEAR_LIMIT, Source::Any(feeds::feed_near_limit)),
+    CABLE_FEED.on(STRANGE, Source::Any(feeds::feed_strange)),
+    CABLE_END,
+    CABLE_END.on(NOISY, Source::Any(feeds::end_noisy)),
+    CABLE_END.on(NEAR_LIMIT, Source::Any(feeds::end_near_limit)),
+    CABLE_END.on(STRANGE, Source::Any(feeds::end_strange)),
     TEST_PATCH,
     TEST_PATCH.on_every(", every byte at every place", 134 * 256, calls::every_field),
     Routine {

@@ -64,6 +64,7 @@ fn read(random: &mut Random, stream: &[u8]) -> Call {
         place: DUMP,
         bytes: [0; 4],
         third: Lent::filled(random, 0),
+        run: None,
     }
 }
 

@@ -2,16 +2,19 @@
 //!
 //! A routine is called on a stack of its own that is painted before the call. After it the lowest
 //! byte that has changed tells how far below its caller the routine wrote, its return address
-//! included. It is called so on the inputs that it is compared on; those that read a stream also on
-//! each message of one as the eighth report of a call, with real time behind each byte. The deepest
-//! call counts.
+//! included. It is called so on the inputs that it is compared on, a reader straight from the cable call
+//! by call; those that read a stream also on each message of one as the eighth report of a call, with
+//! real time behind each byte, and the reader on each such message whole and cut. The deepest call
+//! counts.
 
 use std::arch::asm;
 
-use compare::ffi::{Reading, A_CALL, EMPTY};
-use reference::reports;
+use compare::ffi::{Cable, A_CALL, EMPTY};
 use reference::streams::{self, Random};
+use reference::{reports, CableReader};
 
+use crate::cable::Deed;
+use crate::feeds;
 use crate::lent::{Call, Fill, Lent};
 use crate::routines::{Source, ROUTINES};
 
@@ -25,9 +28,14 @@ const PAINTS: [u8; 2] = [0xA5, 0x5A];
 const MOST: usize = 1 << 10;
 /// But for the reports: eight of them may be under way at once.
 const MOST_REPORTS: usize = 5 << 10;
+/// And for feeding a reader straight from the cable, whose record has room for the longest message.
+const MOST_FEED: usize = 2 << 10;
 
 /// The words of the largest struct that is too large for registers.
-const LARGEST: usize = size_of::<Reading>() / size_of::<usize>();
+const LARGEST: usize = size_of::<Cable>() / size_of::<usize>();
+
+/// So many calls of a reader are measured for an input at most, and so many messages of a stream.
+const MOST_CALLS: usize = 20;
 
 /// The packed bytes of a master; no message has more.
 const LONGEST_PACKED: usize = 172;
@@ -72,6 +80,12 @@ entries! {
         let (room, size) = written(&mut c.room);
         [s, length, c.place, room, size, 0]
     },
+    cable_fresh as matrix_cable_fresh: |_, struct_at| [struct_at, 0, 0, 0, 0, 0],
+    cable_feed as matrix_cable_feed: |c, struct_at| {
+        let (input, length) = read(&c.first);
+        [struct_at, record(c), input, length, 0, 0]
+    },
+    cable_end as matrix_cable_end: |c, struct_at| [struct_at, record(c), 0, 0, 0, 0],
     test_patch as matrix_test_patch: |c, _| {
         let (p, length) = read(&c.first);
         [p, length, 0, 0, 0, 0]
@@ -159,6 +173,13 @@ fn written<T: Copy + Fill>(lent: &mut Lent<T>) -> (usize, usize) {
     (slice.as_mut_ptr() as usize, slice.len())
 }
 
+/// The record of a reader.
+fn record(call: &mut Call) -> usize {
+    let run = call.run.as_mut().expect("a run");
+    let (record, _) = written(&mut run.record);
+    record
+}
+
 /// Measures every routine on `count` inputs by seed, and those that read a stream on deep ones too;
 /// prints a row for each. Holds where none is deeper than it may be.
 pub fn run(count: usize) -> bool {
@@ -179,12 +200,22 @@ impl Entry {
     fn most(&self) -> usize {
         match self.name {
             "reports" => MOST_REPORTS,
+            "cable_feed" => MOST_FEED,
             _ => MOST,
         }
     }
 
     fn reads_stream(&self) -> bool {
         matches!(self.name, "walk" | "read" | "reports")
+    }
+
+    /// The calls that are measured for an input.
+    fn calls(&self, call: Call) -> Vec<Call> {
+        match self.name {
+            "cable_feed" => feeds::single(&call, |deed| deed != Deed::End, MOST_CALLS),
+            "cable_end" => feeds::single(&call, |deed| deed == Deed::End, MOST_CALLS),
+            _ => vec![call],
+        }
     }
 }
 
@@ -193,13 +224,20 @@ fn deepest(entry: &Entry, count: usize) -> usize {
     let source = routine.expect("a routine is compared").source;
     let mut deepest = 0;
     for seed in 0..count as u64 {
-        deepest = deepest.max(depth(entry, &mut made(source, seed)));
+        let mut calls = entry.calls(made(source, seed));
         if entry.reads_stream() {
-            for mut call in deep_calls(seed) {
-                deepest = deepest.max(depth(entry, &mut call));
+            calls.extend(deep_calls(seed));
+        }
+        if entry.name == "cable_feed" {
+            for call in deep_feeds(seed) {
+                calls.extend(entry.calls(call));
             }
         }
+        for call in &mut calls {
+            deepest = deepest.max(depth(entry, call));
+        }
     }
+    assert_ne!(deepest, 0, "{} is not called", entry.name);
     deepest
 }
 
@@ -231,7 +269,25 @@ fn deep_calls(seed: u64) -> Vec<Call> {
                 place,
                 bytes: [0; 4],
                 third: Lent::filled(&mut random, 0),
+                run: None,
             });
+        }
+    }
+    calls
+}
+
+/// Each message of a stream with real time behind each of its bytes, fed whole, and cut anywhere.
+fn deep_feeds(seed: u64) -> Vec<Call> {
+    let mut random = Random::new(seed);
+    let input = streams::stream(seed);
+    let mut calls = Vec::new();
+    for report in reports(&input).take(MOST_CALLS) {
+        let message = &input[report.start..report.end];
+        let deep: Vec<u8> = message.iter().flat_map(|&byte| [byte, 0xFE]).collect();
+        let at = random.below(deep.len());
+        for sizes in [[deep.len(), 0], [at, deep.len() - at]] {
+            let deeds = sizes.map(Deed::Feed).to_vec();
+            calls.push(feeds::lent(&mut random, CableReader::new(), &deep, deeds));
         }
     }
     calls

@@ -33,6 +33,8 @@ pub const TOO_SHORT: u8 = 13;
 pub const OTHER_NAME: u8 = 16;
 /// A list of edits isn't accepted.
 pub const NOT_ACCEPTED: u8 = 20;
+/// A feed and the bytes taken before it are more than the cable reader counts.
+pub const STREAM_TOO_LONG: u8 = 21;
 
 /// What a routine answers.
 #[derive(Clone, Copy, Debug, PartialEq, Eq)]

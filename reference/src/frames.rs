@@ -20,6 +20,13 @@ pub(crate) struct Frame<'a> {
     pub ending: Ending<'a>,
 }
 
+/// Bytes inside a message, how many of them are real time, and the byte behind them, which ends it.
+pub(crate) struct Inside<'a> {
+    pub bytes: &'a [u8],
+    pub noise: usize,
+    pub status: Option<u8>,
+}
+
 /// Bytes F8H..FFH are real time.
 #[must_use]
 pub const fn is_real_time(byte: u8) -> bool {
@@ -36,12 +43,14 @@ const fn ends_message(byte: u8) -> bool {
 #[inline]
 pub(crate) fn next_frame(input: &[u8], place: usize) -> Option<Frame<'_>> {
     let start = place + position(input.get(place..)?, |byte| byte == START)?;
-    let rest = &input[start + 1..];
-    let length = position(rest, ends_message).unwrap_or(rest.len());
-    let (inside, behind) = rest.split_at(length);
-    let end = start + 1 + length;
-    let (end, ending) = match behind.first() {
-        Some(&END) => (end + 1, Ending::Complete(inside)),
+    let Inside {
+        bytes,
+        noise,
+        status,
+    } = inside(&input[start + 1..]);
+    let end = start + 1 + bytes.len();
+    let (end, ending) = match status {
+        Some(END) => (end + 1, Ending::Complete(bytes)),
         // The byte that interrupts is not consumed.
         Some(_) => (end, Ending::Interrupted),
         None => (end, Ending::Cut),
@@ -49,9 +58,21 @@ pub(crate) fn next_frame(input: &[u8], place: usize) -> Option<Frame<'_>> {
     Some(Frame {
         start,
         end,
-        noise: count_real_time(inside),
+        noise,
         ending,
     })
+}
+
+/// What stands inside a message, from a place in it on.
+#[inline]
+pub(crate) fn inside(rest: &[u8]) -> Inside<'_> {
+    let length = position(rest, ends_message).unwrap_or(rest.len());
+    let (bytes, behind) = rest.split_at(length);
+    Inside {
+        bytes,
+        noise: count_real_time(bytes),
+        status: behind.first().copied(),
+    }
 }
 
 /// The first byte that is `wanted`. Blocks without one are passed over by a test without branches,

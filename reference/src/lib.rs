@@ -19,6 +19,7 @@
 #![forbid(unsafe_code)]
 
 pub mod answers;
+mod cable;
 mod desk;
 mod edits;
 mod fields;
@@ -36,6 +37,7 @@ pub mod table;
 mod writing;
 
 pub use answers::{BankOutcome, Outcome, RangeOutcome, Reading, Report, ValueOutcome};
+pub use cable::{CableReader, Fed, Open, LONGEST_STREAM};
 pub use desk::plan_files;
 pub use edits::{apply_bus_edit, apply_edit, extend};
 pub use fields::{range_of, value_of};

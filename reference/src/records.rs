@@ -75,19 +75,20 @@ const BLOCK: usize = 8;
 
 /// Drops real time first.
 fn parse_less_real_time(content: &[u8]) -> Result<Record, Refusal> {
+    // Of a message longer than any kind more is kept, which is enough to find its length wrong.
     let mut kept = [0; LONGEST + BLOCK];
     let length = drop_real_time(content, &mut kept);
     parse(&kept[..length])
 }
 
-/// Keeps the data bytes of a message and tells their number. Of one longer than any kind at least
-/// one byte too many is kept, which is enough to find its length wrong.
-fn drop_real_time(content: &[u8], kept: &mut [u8; LONGEST + BLOCK]) -> usize {
+/// Keeps the data bytes of a message until the room ends, and tells their number.
+#[inline]
+pub(crate) fn drop_real_time(content: &[u8], kept: &mut [u8]) -> usize {
     let (blocks, rest) = content.as_chunks();
     let mut length = 0;
-    for block in blocks {
+    for (index, block) in blocks.iter().enumerate() {
         let Some(room) = kept[length..].first_chunk_mut() else {
-            return length;
+            return length + fill(&content[BLOCK * index..], &mut kept[length..]);
         };
         if block.is_ascii() {
             *room = *block;
@@ -96,10 +97,12 @@ fn drop_real_time(content: &[u8], kept: &mut [u8; LONGEST + BLOCK]) -> usize {
             length += keep(block, room);
         }
     }
-    if let Some(room) = kept[length..].first_chunk_mut() {
-        length += keep(rest, room);
-    }
+    let room = &mut kept[length..];
     length
+        + match room.first_chunk_mut() {
+            Some(room) => keep(rest, room),
+            None => fill(rest, room),
+        }
 }
 
 /// Keeps the data bytes of a block and tells their number. Every byte is put into the room, and the
@@ -113,9 +116,20 @@ fn keep(block: &[u8], room: &mut [u8; BLOCK]) -> usize {
     length
 }
 
+/// Keeps data bytes until the last of the room is filled, and tells their number.
+fn fill(bytes: &[u8], room: &mut [u8]) -> usize {
+    let data = bytes.iter().filter(|&&byte| !is_real_time(byte));
+    let mut length = 0;
+    for (room, &byte) in room.iter_mut().zip(data) {
+        *room = byte;
+        length += 1;
+    }
+    length
+}
+
 /// Judges the bytes between F0H and F7H, real time dropped.
 #[inline]
-fn parse(content: &[u8]) -> Result<Record, Refusal> {
+pub(crate) fn parse(content: &[u8]) -> Result<Record, Refusal> {
     let content = content
         .strip_prefix(&[OBERHEIM])
         .ok_or(Refusal::plain(OTHER_MANUFACTURER))?;

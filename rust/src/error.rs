@@ -4,7 +4,7 @@ use std::{fmt, io};
 
 use crate::ffi;
 use crate::patch;
-use crate::{Bank, Kind, Master, Parameter, Patch};
+use crate::{Bank, Kind, Master, Parameter, Patch, Reader};
 
 /// Why something was refused: the register's number with its detail and value, and in print a sentence
 /// that says what was found and what is expected.
@@ -86,6 +86,14 @@ pub enum Error {
     },
     /// 20: the list of edits is not accepted.
     NotAccepted,
+    /// 21: a stream would be longer than a [`Reader`] takes.
+    #[non_exhaustive]
+    TooMany {
+        /// How many bytes were taken so far.
+        taken: usize,
+        /// How many were fed behind them.
+        given: usize,
+    },
 }
 
 /// What has a wrong length, and how many bytes were found.
@@ -142,10 +150,12 @@ pub(crate) enum Bare {
     Room,
     /// 16.
     Names,
+    /// 21.
+    Stream,
 }
 
 impl Error {
-    /// The register's number: 1 to 13, 16 or 20.
+    /// The register's number: 1 to 13, 16, 20 or 21.
     #[must_use]
     pub const fn number(&self) -> u8 {
         match self {
@@ -164,6 +174,7 @@ impl Error {
             Self::NoRoom { .. } => 13,
             Self::OtherName { .. } => 16,
             Self::NotAccepted => 20,
+            Self::TooMany { .. } => 21,
         }
     }
 
@@ -218,6 +229,7 @@ impl Error {
             13 => about(Bare::Room),
             16 => about(Bare::Names),
             20 => Self::NotAccepted,
+            21 => about(Bare::Stream),
             _ => unreachable!("the register has no number {answer}"),
         })
     }
@@ -277,6 +289,11 @@ impl fmt::Display for Error {
             Self::NotAccepted => f.write_str(
                 "the list of edits is not accepted: it has something other than allowed edits as \
                  they are written, or ends in another patch",
+            ),
+            Self::TooMany { taken, given } => write!(
+                f,
+                "a stream has at most {} bytes: {given} behind the {taken} taken are too many",
+                Reader::LONGEST
             ),
         }
     }

@@ -85,6 +85,46 @@ pub struct Listed {
     pub next: usize,
 }
 
+/// Room for the longest message.
+pub const CABLE_ROOM: usize = 351;
+
+/// The record of a reader that is fed what has arrived so far.
+#[repr(C)]
+#[derive(Clone, Copy, Debug, PartialEq, Eq)]
+pub struct Cable {
+    /// Inside a message its bytes behind F0H so far, real time dropped, as many as fit; else a
+    /// dump's packed bytes. Zero behind them.
+    pub bytes: [u8; CABLE_ROOM],
+    /// Whether a message is open.
+    pub inside: bool,
+    /// Whether the end was declared.
+    pub over: bool,
+    /// How many bytes stand in the room.
+    pub count: usize,
+    /// The place of the F0H of the message that is open, else 0.
+    pub start: usize,
+    /// How much real time stood in it so far, else 0.
+    pub noise: usize,
+    /// How many bytes were taken so far.
+    pub taken: usize,
+}
+
+/// What a call of a reader tells.
+#[repr(C)]
+#[derive(Clone, Copy, Debug, PartialEq, Eq)]
+pub struct Fed {
+    /// The message that ended: all zero where none did; 1 or 21 where the call says so.
+    pub reading: Reading,
+    /// How many bytes the call took.
+    pub taken: usize,
+    /// Whether a message ended with it.
+    pub ended: bool,
+}
+
+// As the header for C has them.
+const _: () = assert!(size_of::<Cable>() == 392 && align_of::<Cable>() == 8);
+const _: () = assert!(size_of::<Fed>() == 64);
+
 /// The most reports that the library makes in a call.
 pub const A_CALL: usize = 8;
 
@@ -117,7 +157,7 @@ impl From<Flat> for Report {
 pub const NONE: u8 = 255;
 
 mod raw {
-    use super::{BankOutcome, Held, Listed, Outcome, Range, Reading, Report};
+    use super::{BankOutcome, Cable, Fed, Held, Listed, Outcome, Range, Reading, Report};
 
     unsafe extern "C" {
         pub unsafe fn matrix_walk(s: *const u8, s_len: usize, place: usize) -> Report;
@@ -135,6 +175,13 @@ mod raw {
             room: *mut usize,
             room_len: usize,
         ) -> Listed;
+        pub safe fn matrix_cable_fresh() -> Cable;
+        pub unsafe fn matrix_cable_feed(
+            state: *mut Cable,
+            input: *const u8,
+            input_len: usize,
+        ) -> Fed;
+        pub safe fn matrix_cable_end(state: &mut Cable) -> Fed;
         pub unsafe fn matrix_test_patch(p: *const u8, p_len: usize) -> Outcome;
         pub safe fn matrix_place_of(parameter: u8) -> u8;
         pub safe fn matrix_parameter_of(place: u8) -> u8;
@@ -244,6 +291,25 @@ pub fn read(s: &[u8], place: usize, buffer: &mut [u8]) -> Reading {
             buffer.len(),
         )
     }
+}
+
+/// A reader at a fresh start.
+#[inline]
+pub fn cable_fresh() -> Cable {
+    raw::matrix_cable_fresh()
+}
+
+/// Feeds a reader, whose record is updated.
+#[inline]
+pub fn cable_feed(state: &mut Cable, input: &[u8]) -> Fed {
+    // SAFETY: a slice with its own length; `state`, which is written, is `&mut`.
+    unsafe { raw::matrix_cable_feed(state, input.as_ptr(), input.len()) }
+}
+
+/// Declares the end to a reader, whose record is updated.
+#[inline]
+pub fn cable_end(state: &mut Cable) -> Fed {
+    raw::matrix_cable_end(state)
 }
 
 /// The reports from a place on into the room, at most [`A_CALL`].

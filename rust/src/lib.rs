@@ -1,5 +1,5 @@
-//! Oberheim Matrix-1000 system exclusive dumps: reading, testing, editing and writing, and the edits
-//! that turn one patch into another.
+//! Oberheim Matrix-1000 system exclusive dumps: reading, from memory or as they come in, testing,
+//! editing and writing, and the edits that turn one patch into another.
 //!
 //! A safe face of a library that is proved. What a message is, which are refused and why, what a
 //! field may hold and what a dump's bytes are is all decided there. Here only a value outside the range
@@ -34,11 +34,16 @@
 //! assert_eq!(edits.as_bytes(), [0xF0, 0x10, 0x06, 0x06, 21, 32, 0xF7]);
 //! # Ok::<(), Error>(())
 //! ```
+//!
+//! A [`Reader`] is fed what has arrived from a cable so far, and [`incoming`] finds the messages of
+//! anything that is read. Of the two programs in `examples/`, `names` lists the names of the patches in
+//! files, and `cable` what comes in on standard input, a line at the end of each message.
 
 #![deny(missing_docs)]
 #![deny(unsafe_code)]
 
 mod bank;
+mod cable;
 mod edits;
 mod error;
 #[allow(unsafe_code)]
@@ -50,6 +55,7 @@ mod plan;
 mod stream;
 
 pub use bank::Bank;
+pub use cable::{incoming, Fed, Incoming, Reader};
 pub use edits::{BusEdit, Edit, PatchEdit};
 pub use error::{BankError, Error, Length, NotAllowed};
 pub use message::{to_vec, to_writer, Kind, Master, Message};

@@ -23,15 +23,16 @@ pub struct Report {
 }
 
 impl Report {
-    /// The one place where a report on an input is taken over; none where there is no message.
-    fn new(input: &[u8], report: ffi::Report) -> Option<Self> {
+    /// The one place where a report is taken over, with the message's own bytes; none where there is
+    /// no message.
+    pub(crate) fn new(report: ffi::Report, message: impl IntoIterator<Item = u8>) -> Option<Self> {
         let ffi::Report {
             start,
             end,
             outcome,
             noise,
         } = report;
-        let about = |bare| refusal(&input[start..end], bare);
+        let about = |bare| refusal(message, end - start - noise, bare);
         let kind = match Error::check(outcome, about) {
             Err(Error::NoMessage) => return None,
             accepted => accepted.map(accepted_kind),
@@ -42,6 +43,12 @@ impl Report {
             kind,
             noise,
         })
+    }
+
+    /// A report on an input that is there whole.
+    fn within(input: &[u8], report: ffi::Report) -> Option<Self> {
+        let message = &input[report.start..report.end];
+        Self::new(report, message.iter().copied())
     }
 
     /// Where the message stands in the stream.
@@ -60,18 +67,16 @@ fn accepted_kind(opcode: usize) -> Kind {
     }
 }
 
-/// What the refusal of a message speaks of: its length, or the byte behind its opcode.
-fn refusal(message: &[u8], bare: Bare) -> Error {
-    let without_real_time = || message.iter().copied().filter(|byte| *byte < 0xF8);
+/// What the refusal of a message speaks of: its length without real time, or the byte behind its
+/// opcode.
+fn refusal(message: impl IntoIterator<Item = u8>, found: usize, bare: Bare) -> Error {
+    let mut without_real_time = message.into_iter().filter(|byte| *byte < 0xF8);
     // It was not refused for its opcode, which is its fourth byte.
-    let opcode = without_real_time().nth(3).unwrap_or_default();
+    let opcode = without_real_time.nth(3).unwrap_or_default();
     let kind = accepted_kind(opcode.into());
-    let behind = without_real_time().nth(4).unwrap_or_default();
+    let behind = without_real_time.next().unwrap_or_default();
     match bare {
-        Bare::Length => Error::WrongLength(Length::Message {
-            kind,
-            found: without_real_time().count(),
-        }),
+        Bare::Length => Error::WrongLength(Length::Message { kind, found }),
         Bare::Number => Error::NotAllowed(match kind {
             Kind::Patch => NotAllowed::PatchNumber(behind),
             Kind::Master => NotAllowed::Version(behind),
@@ -81,6 +86,7 @@ fn refusal(message: &[u8], bare: Bare) -> Error {
         }),
         Bare::Room => unreachable!("the buffer takes every record"),
         Bare::Names => unreachable!("a message has no second patch"),
+        Bare::Stream => unreachable!("a message that ended was taken"),
     }
 }
 
@@ -100,6 +106,23 @@ pub struct Found {
 }
 
 impl Found {
+    /// A report with the record of its message: the bytes that come with the answer, and a dump's
+    /// packed bytes.
+    pub(crate) fn new(report: Report, bytes: [u8; 4], packed: &[u8; Master::LENGTH]) -> Self {
+        let Report {
+            start,
+            end,
+            kind,
+            noise,
+        } = report;
+        Self {
+            start,
+            end,
+            message: kind.and_then(|kind| record(kind, bytes, packed)),
+            noise,
+        }
+    }
+
     /// Where the message stands in the stream.
     #[must_use]
     pub const fn range(&self) -> Range<usize> {
@@ -150,18 +173,8 @@ impl Iterator for Messages<'_> {
         let mut packed = [0; Master::LENGTH];
         let ffi::Reading { report, bytes } = ffi::read(self.input, self.place, &mut packed);
         self.place = report.end;
-        let Report {
-            start,
-            end,
-            kind,
-            noise,
-        } = Report::new(self.input, report)?;
-        Some(Found {
-            start,
-            end,
-            message: kind.and_then(|kind| record(kind, bytes, &packed)),
-            noise,
-        })
+        let report = Report::within(self.input, report)?;
+        Some(Found::new(report, bytes, &packed))
     }
 }
 
@@ -209,7 +222,7 @@ fn record(kind: Kind, bytes: [u8; 4], packed: &[u8; Master::LENGTH]) -> Result<M
 /// ```
 #[must_use]
 pub fn report_at(input: &[u8], place: usize) -> Option<Report> {
-    Report::new(input, ffi::walk(input, place))
+    Report::within(input, ffi::walk(input, place))
 }
 
 /// The reports of a stream: its messages without their records.
@@ -256,7 +269,7 @@ impl Iterator for Reports<'_> {
         }
         let report = *self.room[..self.made].get(self.given)?;
         self.given += 1;
-        Report::new(self.input, report.into())
+        Report::within(self.input, report.into())
     }
 }
 

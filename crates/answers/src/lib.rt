@@ -39,6 +39,9 @@ pub const OTHER_NAME: u8 = 16;
 
 pub const NOT_ACCEPTED: u8 = 20;
 
+// Document 02 (iv): a feed with which more than 4,294,967,295 bytes would have been taken.
+pub const TOO_MANY: u8 = 21;
+
 // The greatest number of 64 bits.
 const LAST: usize = 0xFFFF_FFFF_FFFF_FFFF;
 

@@ -1,7 +1,9 @@
-// The library for C and Rust to link: walk, read, reports, test, lookups, ranges and values of parameters, names, both edits, all writers,
-// the bank, and the planner with its checker, each the routine itself with its own contract. A slice passes as a pointer and a length; a
-// struct is returned by value, laid out as C lays it out.
+// The library for C and Rust to link: walk, read, reports, the reader of the cable, test, lookups, ranges and values of parameters, names,
+// both edits, all writers, the bank, and the planner with its checker, each the routine itself with its own contract. A slice passes as a
+// pointer and a length; a struct is returned by value, laid out as C lays it out. A reader's record is held by the caller and lent.
 use answers::Outcome;
+use cable::Cable;
+use cable::Fed;
 use fields::BytePlace;
 use fields::FoundParameter;
 use fields::FoundPlace;
@@ -25,6 +27,7 @@ ghost use Rattle.names.specs.Names.{naming, showing};
 ghost use Rattle.patch.specs.Patch.{patchRows, holding};
 ghost use Rattle.edit_lists.specs.Plan.{planning};
 ghost use Rattle.edit_lists.specs.Check.{checking};
+ghost use Rattle.cable.specs.Cable.{freshRecord, feeding, ending, Leaves};
 ghost use Rattle.reading.specs.code.Rooms.{Makes};
 ghost use Rattle.reading.specs.code.Told.{walked, reads};
 ghost use Rattle.writing.specs.Writing.{writing, writingBank};
@@ -54,6 +57,34 @@ pub extern "C" fn matrix_reports(s: &[u8], place: usize, room: &mut [usize]) -> 
     ensures { λ r. ⌜ Makes (now (s .entry)) place (now (room .entry)) (now (room .exit)) r ⌝ }
 {
     reading::listing::reports(s, place, room)
+}
+
+// A reader of the cable at a fresh start.
+#[no_mangle]
+pub extern "C" fn matrix_cable_fresh() -> Cable
+    ensures { λ r. ⌜ r ≡ freshRecord ⌝ }
+{
+    cable::fresh()
+}
+
+// Feeds a reader, whose record is updated.
+#[no_mangle]
+pub extern "C" fn matrix_cable_feed(state: &mut Cable, input: &[u8]) -> Fed
+    ensures { λ r. ⌜ Leaves (feeding (now (state .entry)) (now (input .entry))) (now (state .exit)) r ⌝ }
+{
+    let step = cable::feed(*state, input);
+    *state = step.state;
+    step.fed
+}
+
+// Declares the end to a reader, whose record is updated.
+#[no_mangle]
+pub extern "C" fn matrix_cable_end(state: &mut Cable) -> Fed
+    ensures { λ r. ⌜ Leaves (ending (now (state .entry))) (now (state .exit)) r ⌝ }
+{
+    let step = cable::end(*state);
+    *state = step.state;
+    step.fed
 }
 
 // The test of a patch.

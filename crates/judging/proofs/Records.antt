@@ -35,7 +35,7 @@ module _ (c : List ℕ) (j : Judged) (q : j ≡ judged (judge (framed c))) where
       by-verdict (refused o) z = record { result = z; lent = refl }
 
   module _ (its : Accepted c) where
-    packed-length : length (packed c its) ≡ its .size
+    pub packed-length : length (packed c its) ≡ its .size
     unfolding pack
     packed-length = by-size (its .size) (its .fits)
       where

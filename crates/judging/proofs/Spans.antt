@@ -39,11 +39,11 @@ module _ (t : List ℕ) (s : Span) (e : s ≡ spanOf t) where
   span-noise = ap (λ (x : Span). x .noise) e ∙ rw span-body
 
   -- Cut or interrupted, and complete.
-  verdict-ended : (s .ending ≡ 0 → ⊥) → verdictFrom t ≡ refused (outcome (s .ending) 0)
+  pub verdict-ended : (s .ending ≡ 0 → ⊥) → verdictFrom t ≡ refused (outcome (s .ending) 0)
   verdict-ended n =
       ap (λ (r : Report). r .verdict) (message-refused judge 0 t (λ z. n (span-ending ∙ z))) ∙ ap (λ (a : ℕ). refused (outcome a 0)) (sym span-ending)
 
-  verdict-judged : s .ending ≡ 0 → verdictFrom t ≡ judge (framed (withoutRealTime (take (s .length) t)))
+  pub verdict-judged : s .ending ≡ 0 → verdictFrom t ≡ judge (framed (withoutRealTime (take (s .length) t)))
   verdict-judged z =
       ap (λ (r : Report). r .verdict) (message-complete judge 0 t (sym span-ending ∙ z))
       ∙ ap (λ (b : List ℕ). judge (framed (withoutRealTime b))) (sym span-body)

@@ -114,12 +114,12 @@ fn judge_body(body: &[u8], noise: usize) -> Judged
     judge_content(body, count_content(body, noise))
 }
 
-// The same with its packed bytes at the start of a lent buffer: as judged, then 13. Refused, the buffer keeps every byte.
-fn record_body(body: &[u8], noise: usize, buffer: &mut [u8]) -> Judged
-    requires { ⌜ noise ≡ realTimeIn (now body) ⌝ }
-    ensures { λ r. ⌜ Gives (recordedAs (judge (framed (withoutRealTime (now (body .entry))))) (now (buffer .entry))) r (now (buffer .exit)) ⌝ }
+// The same with its packed bytes at the start of a lent buffer: as judged, then 13. Refused, the buffer keeps every byte. The callers below
+// have counted its content.
+fn record_content(body: &[u8], count: usize, buffer: &mut [u8]) -> Judged
+    requires { ⌜ count ≡ length (contentBy count (now body)) ⌝ }
+    ensures { λ r. ⌜ Gives (recordedAs (judge (framed (contentBy count (now (body .entry))))) (now (buffer .entry))) r (now (buffer .exit)) ⌝ }
 {
-    let count = count_content(body, noise);
     let j = judge_content(body, count);
     if j.outcome.answer != DONE {
         return j;
@@ -132,6 +132,21 @@ fn record_body(body: &[u8], noise: usize, buffer: &mut [u8]) -> Judged
         pack_data(body, count, &mut buffer[..size]);
     }
     j
+}
+
+// The same from what stands between F0H and F7H. The caller below has counted the real time there.
+fn record_body(body: &[u8], noise: usize, buffer: &mut [u8]) -> Judged
+    requires { ⌜ noise ≡ realTimeIn (now body) ⌝ }
+    ensures { λ r. ⌜ Gives (recordedAs (judge (framed (withoutRealTime (now (body .entry))))) (now (buffer .entry))) r (now (buffer .exit)) ⌝ }
+{
+    record_content(body, count_content(body, noise), buffer)
+}
+
+// The same from a content that was kept: what stood between F0H and F7H, no real time among it.
+pub fn record_kept(content: &[u8], buffer: &mut [u8]) -> Judged
+    ensures { λ r. ⌜ Gives (recordedAs (judge (framed (now (content .entry)))) (now (buffer .entry))) r (now (buffer .exit)) ⌝ }
+{
+    record_content(content, content.len(), buffer)
 }
 
 // The message whose F0H stands just before `rest`: how far it runs, and what it comes to, by document 01's table from 2 on.

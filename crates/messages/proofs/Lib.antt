@@ -6,5 +6,6 @@ pub mod Heads
 pub mod Neighbours
 pub mod OneNibble
 pub mod Accepted
+pub mod Long
 pub mod Written
 pub mod AsWritten

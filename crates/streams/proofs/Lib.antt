@@ -7,3 +7,4 @@ pub mod Closing
 pub mod Complete
 pub mod Heard
 pub mod Lent
+pub mod Feed

@@ -6,6 +6,7 @@ pub mod Answers
 pub mod Found
 pub mod Noise
 pub mod Withdrawn
+pub mod Cable
 pub mod Examples
 pub mod Writers
 pub mod Bank

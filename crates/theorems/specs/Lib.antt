@@ -1,4 +1,5 @@
 pub mod Damage
+pub mod Cable
 pub mod Slipped
 pub mod Answers
 pub mod Found

@@ -1,6 +1,7 @@
 //! Streams made from a seed: good dumps, damaged ones, foreign ones, noise, and the sizes at the
 //! limit.
 
+pub mod cuts;
 pub mod damage;
 pub mod inputs;
 mod pieces;

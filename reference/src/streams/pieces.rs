@@ -78,7 +78,7 @@ fn patch_dump(random: &mut Random, out: &mut Vec<u8>) {
 }
 
 /// A dump of any kind.
-fn any_dump(random: &mut Random, out: &mut Vec<u8>) {
+pub(super) fn any_dump(random: &mut Random, out: &mut Vec<u8>) {
     if random.one_in(3) {
         master(random, out);
     } else {
@@ -219,7 +219,7 @@ pub(super) fn any_edit(random: &mut Random, out: &mut Vec<u8>) {
 }
 
 /// Some data bytes.
-fn data(random: &mut Random, most: usize, out: &mut Vec<u8>) {
+pub(super) fn data(random: &mut Random, most: usize, out: &mut Vec<u8>) {
     let length = random.within(0..=most);
     out.extend((0..length).map(|_| random.byte_within(0..=127)));
 }

@@ -1,5 +1,9 @@
 //! The second program's tests: the papers' examples, the promises of each routine, the demands.
 
+mod cable;
+mod cable_cuts;
+mod cable_inputs;
+mod cable_model;
 mod checking;
 mod damage;
 mod desk;

@@ -1,115 +1,21 @@
--- `record_body` judges, then sees to the room, then packs: each return is a case of `recordedAs`.
-use mathlib.Core.Path.{_≡_, sym, ap, subst, _∙_}
+-- `record_body` counts the content: what holds of it by its count holds of the content.
+use mathlib.Core.Path.{subst}
 use mathlib.Core.List.{List}
 use Prim.Native.Nat.{ℕ}
-use native.Mathlib.Omega.{arith}
-use lib.ListN.{length, take}
-use lib.Seq.{length-take-le}
 use borrow.Author.Needs.{needs}
 use Rattle.answers.specs.Effect.{Gives}
-use Rattle.streams.specs.Bytes.{withoutRealTime, framed}
-use Rattle.messages.specs.Kinds.{kindOf}
+use Rattle.streams.specs.Bytes.{framed}
 use Rattle.messages.specs.Judge.{judge}
-use Rattle.messages.specs.code.Sizes.{packedSize}
-use Rattle.messages.proofs.Accepted.{Accepted}
-use Rattle.judging.specs.declared.Judged.{Judged}
-use Rattle.judging.specs.code.Content.{contentBy}
 use Rattle.judging.specs.code.Judged.{recordedAs}
-use Rattle.judging.proofs.Records.{accepted-so, record-refused, record-short, record-stored, nothing-packed}
 use Rattle.judging.proofs.record_body.Statement.{statement}
 use Rattle.judging.proofs.record_body.Tie as tie
 
-abbrev content : tie.After-judge-content → List ℕ
-content j = contentBy (j .before .count-content .result) (j .before .before .before .before .args .body .now)
-
--- What holds of the content by its count holds of the content.
-counted : (j : tie.After-judge-content) (lent after : List ℕ) (r : Judged) → let a = j .before .before .before .before .args in
-    Gives (recordedAs (judge (framed (content j))) lent) r after → Gives (recordedAs (judge (framed (withoutRealTime (a .body .now)))) lent) r after
-counted j lent after r g = subst (λ (l : List ℕ). Gives (recordedAs (judge (framed l)) lent) r after) (j .before .count-content .ensures .same) g
-
 returns : tie.Need-returns
 returns c =
-    let j = c .before .before in
-    let lent = j .before .before .before .before .args .buffer .now in
-    counted j lent lent (j .judge-content .result)
-    (record-refused (content j) (j .judge-content .result) (j .judge-content .ensures) lent (c .if1 .taken))
-
--- What is accepted has an opcode, and the size that the opcode finds.
-its : (e : tie.Else1) → Accepted (content (e .before .before))
-its e = let j = e .before .before in accepted-so (content j) (j .judge-content .result) (j .judge-content .ensures) (e .if1 .left)
-
-opcode-there : tie.Need-byte-at-requires
-opcode-there c κs = let all = c .before .before .before .count-content .ensures .counted in (all, omega (arith, all, its c .long))
-
-size : (n : tie.After-packed-size) → n .packed-size .result ≡ its (n .before .before .before) .size
-size n =
-    n .packed-size .ensures ∙ ap packedSize (n .before .kind-of .ensures) ∙ ap (λ (o : ℕ). packedSize (kindOf o)) (n .before .before .byte-at .ensures)
-    ∙ its (n .before .before .before) .sized
-
-returns-2 : tie.Need-returns-2
-returns-2 c =
-    let n = c .before .before in
-    let e = n .before .before .before in
-    let j = e .before .before in
-    let lent = j .before .before .before .before .args .buffer .now in
-    counted j lent lent (c .refused-by .result)
-    (record-short (content j) (j .judge-content .result) (j .judge-content .ensures) (its e) lent (c .refused-by .result)
-    (omega (arith, size n, c .before .if2 .taken)) (c .refused-by .ensures))
-
-abbrev buffer : tie.Then3 → List ℕ
-buffer t = t .before .before .before .before .before .before .before .before .before .before .before .args .buffer .now
-
--- The part of the buffer that is lent has room for the packed bytes and no more.
-room : (t : tie.Then3) → length (take (t .before .before .packed-size .result) (buffer t)) ≡ t .before .before .packed-size .result
-room t = length-take-le (t .before .before .packed-size .result) (buffer t) (omega (arith, t .before .if2 .left))
-
-pack-data-requires : tie.Need-pack-data-requires
-pack-data-requires c κs =
-    let t = c .before in
-    let n = t .before .before in
-    let e = n .before .before .before in
-    let all = e .before .before .before .count-content .ensures .counted in
-    (all, omega (arith, all, room t, size n, its e .fits (omega (arith, size n, t .if3 .taken))))
-
-returns-3 : tie.Need-returns-3
-returns-3 c =
-    let packs = c .before .before in
-    let t = packs .before .before in
-    let n = t .before .before in
-    let e = n .before .before .before in
-    let j = e .before .before in
-    let lent = j .before .before .before .before .args .buffer .now in
-    let filled = (rw (room t, size n) at (packs .pack-data .ensures)) .packed (its e .narrow) in
-    counted j lent _ (j .judge-content .result)
-    (record-stored (content j) (j .judge-content .result) (j .judge-content .ensures) (its e) lent _ (omega (arith, size n, t .before .if2 .left))
-    (rw (size n, filled)))
-
-returns-4 : tie.Need-returns-4
-returns-4 c =
-    let n = c .before .before in
-    let e = n .before .before .before in
-    let j = e .before .before in
-    let lent = j .before .before .before .before .args .buffer .now in
-    let none : its e .size ≡ 0 = omega (arith, size n, c .if3 .left) in
-    counted j lent lent (j .judge-content .result)
-    (record-stored (content j) (j .judge-content .result) (j .judge-content .ensures) (its e) lent lent (omega arith)
-    (nothing-packed (content j) (j .judge-content .result) (j .judge-content .ensures) (its e) lent none))
+    let r = c .before .before in
+    let lent = r .before .before .before .before .before .args .buffer .now in
+    subst (λ (l : List ℕ). Gives (recordedAs (judge (framed l)) lent) (r .record-content .result) (r .record-content .last .1 .1 .0)) (r .before .before .count-content .ensures .same)
+    (r .record-content .ensures)
 
 pub record-body-spec : {M : Type 1} → statement M
-record-body-spec =
-    tie.close
-    (tie.spec
-    (λ c κs. search needs)
-    (λ c κs. search needs)
-    returns
-    opcode-there
-    (λ c κs. search needs)
-    (λ c κs. search needs)
-    (λ c κs. search needs)
-    returns-2
-    (λ c. search needs)
-    (λ c. sym (room (c .before)))
-    pack-data-requires
-    (λ c. search needs)
-    returns-3
-    returns-4)
+record-body-spec = tie.close (tie.spec (λ c κs. search needs) (λ c κs. search needs) (λ c. search needs) returns)
