@@ -22,8 +22,8 @@ use Rattle.messages.proofs.Numbers.{judge-number}
 use Rattle.cable.specs.declared.Cable.{Cable}
 use Rattle.cable.specs.declared.Fed.{Fed}
 use Rattle.cable.specs.declared.Step.{Step}
-use Rattle.cable.specs.Cable.{limit, heldBy, noReport, told, refusing, goes, feeding, lastTold, ending}
-use Rattle.cable.specs.promises.Answers.{answerIn, OfMessage, Kept, Answers}
+use Rattle.cable.specs.Cable.{limit, heldBy, laidOver, packedBy, packedOf, recordOf, told, refusing, goes, feeding, lastTold, ending}
+use Rattle.cable.specs.promises.Answers.{answerIn, OfMessage, Kept, NoReport, Done, Ended, Answers}
 use Rattle.cable.proofs.Calls.{held-inside, held-outside, ending-over, ending-first, feeding-over, feeding-many, feeding-goes}
 
 -- The number of a message that ended.
@@ -49,14 +49,13 @@ fate c s = by-over (c .over) refl (ltb limit (c .taken + length s)) refl
     by-over false o true q = past o (ltb-true limit (c .taken + length s) q) (feeding-many c s o q)
     by-over false o false q = open-still o (ltb-false limit (c .taken + length s) q) (feeding-goes c s o q)
 
+other : (o : Bool) → o ≡ true → o ≡ false → ⊥
+other o p q = let z : _≡_ {A = ℕ} 0 1 = cc in omega arith
+
 -- A feed that is done.
 module _ (c : Cable) (s : List ℕ) where
   abbrev its : Taken
   its = taken judge (c .taken) (heldBy c) s
-
-  told-done : (n : ℕ) (o : Option stream.Report) → EndsSo judge o → told n o .ended ≡ true → OfMessage (answerIn (told n o))
-  told-done n none e q = let z : _≡_ {A = ℕ} 0 1 = cc in absurd (omega arith)
-  told-done n (some r) e q = of-message (r .verdict) e
 
   -- Its answer: 0 with no message, else of the message.
   goes-answer : OfMessage (answerIn (goes c s .fed))
@@ -66,19 +65,54 @@ module _ (c : Cable) (s : List ℕ) where
       by-option none e = inl refl
       by-option (some r) e = of-message (r .verdict) e
 
-  goes-within : goes c s .fed .taken ≤ length s
-  goes-within = by-option (its .ended) (feed.taken-within judge s (c .taken) (heldBy c))
-    where
-      by-option : (o : Option stream.Report) → its .count ≤ length s → told (its .count) o .taken ≤ length s
-      by-option none h = h
-      by-option (some r) h = h
+  told-taken : (n : ℕ) (o : Option stream.Report) → told n o .taken ≡ n
+  told-taken n none = refl
+  told-taken n (some r) = refl
 
-  goes-all : goes c s .fed .ended ≡ false → (goes c s .fed .taken ≡ length s) × (answerIn (goes c s .fed) ≡ 0)
-  goes-all e = by-stop (feed.taken-stops judge s (c .taken) (heldBy c))
+  moved : (st : State) (n : ℕ) (p : List ℕ) → (recordOf (laidOver c) n st p .taken ≡ n) × (recordOf (laidOver c) n st p .over ≡ false)
+  moved outside n p = (refl, refl)
+  moved (inside f w k) n p = (refl, refl)
+
+  -- Where no message ended, none was recorded.
+  none-packed : (st : State) (n : ℕ) → packedBy (recordOf (laidOver c) n st []) ≡ []
+  none-packed outside n = refl
+  none-packed (inside f w k) n = refl
+
+  -- With a report, or without one.
+  data With (x : Step) : Type 0 where
+    a-report : x .fed .ended ≡ true → x .fed .reading .report .end ≡ c .taken + x .fed .taken → With x
+    no-report : x .fed .ended ≡ false → x .fed .taken ≡ length s → answerIn (x .fed) ≡ 0 → NoReport 0 (x .fed) → packedBy (x .state) ≡ [] → With x
+
+  with : With (goes c s)
+  with = by-stop (feed.taken-stops judge s (c .taken) (heldBy c))
     where
-      by-stop : Stops s (its .count) (its .state) (its .ended) → (goes c s .fed .taken ≡ length s) × (answerIn (goes c s .fed) ≡ 0)
-      by-stop (at-all q l) = (rw q l, rw q)
-      by-stop (at-an-end r q o) = let z = rw q at e in let y : _≡_ {A = ℕ} 0 1 = cc in absurd (omega arith)
+      by-stop : Stops (c .taken) s (its .count) (its .state) (its .ended) → With (goes c s)
+      by-stop (at-all q l) =
+          no-report (rw q) (rw q l) (rw q) (record { start = rw q; end = rw q; detail = rw q; value = rw q; noise = rw q; bytes = rw q })
+          (rw q (none-packed (its .state) (c .taken + its .count)))
+      by-stop (at-an-end r q e o) = a-report (rw q) (rw q e)
+
+  done-so : Done c s (goes c s)
+  done-so = record {
+    place = moved (its .state) (c .taken + its .count) (packedOf (its .ended)) .0 ∙ ap (λ (n : ℕ). c .taken + n) (sym (told-taken (its .count) (its .ended)));
+    within = omega (arith, told-taken (its .count) (its .ended), feed.taken-within judge s (c .taken) (heldBy c));
+    on = moved (its .state) (c .taken + its .count) (packedOf (its .ended)) .1;
+    up-to = λ e. reported with e;
+    answered = λ e. goes-answer;
+    all = λ e. quiet with e .0;
+    zero = λ e. quiet with e .1;
+    plain = λ e. quiet with e .2;
+    nothing = λ e. quiet with e .3;
+  }
+    where
+      reported : With (goes c s) → goes c s .fed .ended ≡ true → goes c s .fed .reading .report .end ≡ c .taken + goes c s .fed .taken
+      reported (a-report t e) q = e
+      reported (no-report f l z p n) q = absurd (other _ q f)
+
+      quiet : With (goes c s) → goes c s .fed .ended ≡ false
+          → (goes c s .fed .taken ≡ length s) × (answerIn (goes c s .fed) ≡ 0) × NoReport 0 (goes c s .fed) × (packedBy (goes c s .state) ≡ [])
+      quiet (a-report t e) q = absurd (other _ t q)
+      quiet (no-report f l z p n) q = (l, z, p, n)
 
 -- The numbers of messages are none of these.
 not-of : (n k : ℕ) → OfMessage n → (k ≡ 1) ⊎ (k ≡ 13) ⊎ (k ≡ 21) → n ≡ k → ⊥
@@ -92,9 +126,6 @@ not-of n k (inr (inr a)) (inl b) e = omega arith
 not-of n k (inr (inr a)) (inr (inl b)) e = omega arith
 not-of n k (inr (inr a)) (inr (inr b)) e = omega arith
 
-other : (o : Bool) → o ≡ true → o ≡ false → ⊥
-other o p q = let z : _≡_ {A = ℕ} 0 1 = cc in omega arith
-
 abbrev answer : Cable → List ℕ → ℕ
 answer c s = answerIn (feeding c s .fed)
 
@@ -102,8 +133,9 @@ answer c s = answerIn (feeding c s .fed)
 said : (c : Cable) (s : List ℕ) (x : Step) → feeding c s ≡ x → answer c s ≡ answerIn (x .fed)
 said c s x e = ap (λ (y : Step). answerIn (y .fed)) e
 
-keeps : (c : Cable) (place n : ℕ) (x : Step) → x ≡ refusing c place n → Kept c x
-keeps c place n x e = record { state = ap (λ (y : Step). y .state) e; none = ap (λ (y : Step). y .fed .taken) e; quiet = ap (λ (y : Step). y .fed .ended) e }
+keeps : (c : Cable) (place n : ℕ) (x : Step) → x ≡ refusing c place n → Kept c x × NoReport place (x .fed)
+keeps c place n x e =
+    rw e (record { state = refl; none = refl; quiet = refl }, record { start = refl; end = refl; detail = refl; value = refl; noise = refl; bytes = refl })
 
 gives-1 : (c : Cable) (s : List ℕ) → answer c s ≡ 1 → c .over ≡ true
 gives-1 c s z = go (fate c s)
@@ -138,49 +170,36 @@ last c = by-flags (c .over) refl (c .inside) refl
     by-flags false o true q = cut o q (ends c o ∙ ap (λ (st : State). answerIn (lastTold (c .taken) st)) (held-inside c q))
     by-flags false o false q = none-open o q (ends c o ∙ ap (λ (st : State). answerIn (lastTold (c .taken) st)) (held-outside c q))
 
+-- The first end, with a message open and with none.
+first-end : (c : Cable) → c .over ≡ false → Ended c (ending c)
+first-end c o = rw (ending-first c o) (record {
+  none = untaken (heldBy c);
+  place = refl;
+  over = refl;
+  nothing = refl;
+  cut = λ i. rw (held-inside c i) (refl, refl, refl, refl);
+  no-message = λ i. rw (held-outside c i) (refl, refl, record { start = refl; end = refl; detail = refl; value = refl; noise = refl; bytes = refl });
+})
+  where
+    untaken : (st : State) → lastTold (c .taken) st .taken ≡ 0
+    untaken outside = refl
+    untaken (inside f w k) = refl
+
 pub answers : Answers
 answers = record {
   feed-1 = λ c s. (gives-1 c s, λ o. said c s _ (feeding-over c s o));
   feed-21 = λ c s. (gives-21 c s, λ h. said c s _ (feeding-many c s (h .0) (lt-ltb limit (c .taken + length s) (h .1))));
-  feed-kept = kept;
-  feed-1-where = λ c s o. let e = feeding-over c s o in (ap (λ (x : Step). x .fed .reading .report .start) e, ap (λ (x : Step). x .fed .reading .report .end) e);
-  feed-21-where = λ c s z.
-      let h = gives-21 c s z in
-      let e = feeding-many c s (h .0) (lt-ltb limit (c .taken + length s) (h .1)) in
-      (ap (λ (x : Step). x .fed .reading .report .start) e, ap (λ (x : Step). x .fed .reading .report .end) e);
-  feed-done = done-so;
-  feed-all = λ c s o h e.
-      let g = feeding-goes c s o (le-ltb limit (c .taken + length s) h) in
-      let all = goes-all c s (sym (ap (λ (x : Step). x .fed .ended) g) ∙ e) in
-      (ap (λ (x : Step). x .fed .taken) g ∙ all .0, said c s _ g ∙ all .1);
-  feed-within = within;
+  feed-over = λ c s o. keeps c (c .taken) 1 (feeding c s) (feeding-over c s o);
+  feed-many = λ c s o h. keeps c 0 21 (feeding c s) (feeding-many c s o (lt-ltb limit (c .taken + length s) h));
+  feed-done = λ c s o h. rw (feeding-goes c s o (le-ltb limit (c .taken + length s) h)) (done-so c s);
   end-2 = λ c. (two c, λ h. ends c (h .0) ∙ ap (λ (st : State). answerIn (lastTold (c .taken) st)) (held-inside c (h .1)));
   end-1 = λ c. (one c, one-back c);
-  end-over = over;
+  end-first = first-end;
   end-again = λ c o. keeps c (c .taken) 1 (ending c) (ending-over c o);
+  fresh = (refl, refl, refl, refl);
   never-13 = λ c s. (no-13 c s, end-13 c);
 }
   where
-    kept : (c : Cable) (s : List ℕ) → (answer c s ≡ 1) ⊎ (answer c s ≡ 21) → Kept c (feeding c s)
-    kept c s (inl z) = keeps c (c .taken) 1 (feeding c s) (feeding-over c s (gives-1 c s z))
-    kept c s (inr z) = let h = gives-21 c s z in keeps c 0 21 (feeding c s) (feeding-many c s (h .0) (lt-ltb limit (c .taken + length s) (h .1)))
-
-    done-so : (c : Cable) (s : List ℕ) → feeding c s .fed .ended ≡ true → OfMessage (answer c s)
-    done-so c s q = go (fate c s)
-      where
-        go : Fate c s → OfMessage (answer c s)
-        go (behind o e) = absurd (other _ q (ap (λ (x : Step). x .fed .ended) e))
-        go (past o h e) = absurd (other _ q (ap (λ (x : Step). x .fed .ended) e))
-        go (open-still o h e) = rw (said c s _ e) (goes-answer c s)
-
-    within : (c : Cable) (s : List ℕ) → feeding c s .fed .taken ≤ length s
-    within c s = go (fate c s)
-      where
-        go : Fate c s → feeding c s .fed .taken ≤ length s
-        go (behind o e) = omega (arith, ap (λ (x : Step). x .fed .taken) e)
-        go (past o h e) = omega (arith, ap (λ (x : Step). x .fed .taken) e)
-        go (open-still o h e) = omega (arith, ap (λ (x : Step). x .fed .taken) e, goes-within c s)
-
     no-13 : (c : Cable) (s : List ℕ) → answer c s ≡ 13 → ⊥
     no-13 c s z = go (fate c s)
       where
@@ -213,14 +232,6 @@ answers = record {
         go (cut o i a) (inl x) = absurd (other _ x o)
         go (cut o i a) (inr x) = absurd (other _ i x)
         go (none-open o i a) h = a
-
-    over : (c : Cable) → ending c .state .over ≡ true
-    over c = go (last c)
-      where
-        go : Last c → ending c .state .over ≡ true
-        go (again o a) = ap (λ (x : Step). x .state .over) (ending-over c o) ∙ o
-        go (cut o i a) = ap (λ (x : Step). x .state .over) (ending-first c o)
-        go (none-open o i a) = ap (λ (x : Step). x .state .over) (ending-first c o)
 
     end-13 : (c : Cable) → answerIn (ending c .fed) ≡ 13 → ⊥
     end-13 c z = go (last c)

@@ -94,9 +94,9 @@ told-taken n none = refl
 told-taken n (some r) = refl
 
 -- The report of a call is the one that it ended with, and its packed bytes stand in the record.
-given-is : (old : List ℕ) (p : ℕ) (t : Taken) (xs : List ℕ) → Stops xs (t .count) (t .state) (t .ended) → given (stepBy old p t) ≡ map entryOf (listOf (t .ended))
+given-is : (old : List ℕ) (p : ℕ) (t : Taken) (xs : List ℕ) → Stops p xs (t .count) (t .state) (t .ended) → given (stepBy old p t) ≡ map entryOf (listOf (t .ended))
 given-is old p t xs (at-all q l) = rw q
-given-is old p t xs (at-an-end r q o) =
+given-is old p t xs (at-an-end r q e o) =
     rw (q, o, take-at (packedIn (r .verdict)) (drop (length (packedIn (r .verdict))) cleared) (length (packedIn (r .verdict))) refl)
 
 map-append : (a b : List stream.Report) → map entryOf (a ++ b) ≡ map entryOf a ++ map entryOf b
@@ -205,10 +205,10 @@ gets-on : (xs : List ℕ) (p : ℕ) (st : State) → 0 < length xs → let t = t
 gets-on xs p outside h = omega (arith, feed.taken-on judge xs p h, load-small (taken judge p outside xs .state))
 gets-on xs p (inside f c k) h = by-stop (feed.taken-stops judge xs p (inside f c k))
   where
-    by-stop : (let t = taken judge p (inside f c k) xs in Stops xs (t .count) (t .state) (t .ended))
+    by-stop : (let t = taken judge p (inside f c k) xs in Stops p xs (t .count) (t .state) (t .ended))
         → let t = taken judge p (inside f c k) xs in suc (load (t .state)) ≤ 2 * t .count + 1
     by-stop (at-all q l) = omega (arith, l, load-small (taken judge p (inside f c k) xs .state))
-    by-stop (at-an-end r q o) = let z : load (taken judge p (inside f c k) xs .state) ≡ 0 = ap load o in omega arith
+    by-stop (at-an-end r q e o) = let z : load (taken judge p (inside f c k) xs .state) ≡ 0 = ap load o in omega arith
 
 nothing-left : (ns : List ℕ) (c : Cable) → run ns c [] .left ≡ []
 nothing-left [] c = refl
@@ -291,10 +291,10 @@ every-cut = record { as-the-file = as-the-file; gets-on = on }
         none : its c s .count ≡ 0
         none = sym (going c s o h .took) ∙ z
 
-        by-stop : (let t = its c s in Stops s (t .count) (t .state) (t .ended))
+        by-stop : (let t = its c s in Stops (c .taken) s (t .count) (t .state) (t .ended))
             → (feeding c s .fed .ended ≡ true) × ((t : List ℕ) → c .taken + length t ≤ limit → 0 < length t → 0 < feeding (feeding c s .state) t .fed .taken)
         by-stop (at-all q l) = absurd (omega (arith, l, none))
-        by-stop (at-an-end r q st) =
+        by-stop (at-an-end r q e st) =
             let g = going c s o h in
             let out : heldBy (feeding c s .state) ≡ outside = ap (λ (x : Step). heldBy (x .state)) as-goes ∙ ap (λ (x : State). heldBy (recordOf (laidOver c) (c .taken + its c s .count) x (packedOf (its c s .ended)))) st in (
               ap (λ (x : Step). x .fed .ended) as-goes ∙ ap (λ (x : Option stream.Report). told (its c s .count) x .ended) q,

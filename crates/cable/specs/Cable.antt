@@ -33,11 +33,11 @@ cleared = replicate room 0
 abbrev pub least : ℕ → ℕ → ℕ
 least a b = cond (ltb b a) b a
 
--- The message that is open, by a record. (No call leaves more noise in it than bytes taken; in a record that has, it counts as these.)
+-- The message that is open, by a record. (A call that is done leaves no more noise there than bytes taken; of a record that has more, so many count.)
 abbrev pub heldBy : Cable → State
 heldBy c = cond (c .inside) (inside (c .start) (take (c .count) (c .bytes)) (least (c .noise) (c .taken))) outside
 
--- 'After a dump's report it gives the packed bytes until the next call.'
+-- 'After a dump's report it gives the packed bytes until the next call': the first of the record's bytes, where no message is open.
 abbrev pub packedBy : Cable → List ℕ
 packedBy c = cond (c .inside) [] (take (c .count) (c .bytes))
 
@@ -45,8 +45,9 @@ packedBy c = cond (c .inside) [] (take (c .count) (c .bytes))
 abbrev pub resting : List ℕ → ℕ → Bool → Cable
 resting p n over = record { bytes = atStart p cleared; inside = false; over = over; count = length p; start = 0; noise = 0; taken = n }
 
--- A record with a message open: its bytes behind F0H, real time dropped, as many as there is room for, stand over those that stood there.
--- 'Longer ones are followed to their end without being stored.'
+-- A record with a message open: its bytes behind F0H, real time dropped, as many as there is room for, stand over those that stood there. 'Longer ones
+-- are followed to their end without being stored': of them only the first are there, and that is enough, since with more than 349 behind F0H no message has
+-- its kind's length, and then only maker, device and opcode matter.
 abbrev pub following : List ℕ → ℕ → List ℕ → ℕ → ℕ → Cable
 following old f c k n =
     let b = take room c in

@@ -37,8 +37,8 @@ pub const LIMIT: usize = 4294967295;
 pub const ROOM: usize = MasterParameters::LENGTH;
 
 // A reader's record. Inside a message: its bytes behind F0H so far, real time dropped, as many as there is room for, their count, its
-// start, and the real time in it so far. After a dump's report: its packed bytes, and their count. The bytes taken so far; whether the end
-// was declared.
+// start, and the real time in it so far. After a dump's report, until the next call that is done: its packed bytes, and their count. Else
+// zeros. The bytes taken so far; whether the end was declared.
 #[repr(C)]
 pub struct Cable {
     pub bytes: [u8; ROOM],
@@ -51,7 +51,7 @@ pub struct Cable {
 }
 
 // What a call tells: how many bytes it took, whether a message ended with it, and that message's report with the bytes that come with
-// its answer: all zero where none ended; 1 and 21 where the call says so.
+// its answer. Where none ended, all zero; with 1 the bytes taken so far as start and end, with 21 no more than that number.
 #[repr(C)]
 pub struct Fed {
     pub reading: Reading,
@@ -324,7 +324,7 @@ fn seek(room: &mut [u8], place: usize, input: &[u8]) -> Turn
     ended(judged, start, place + n, span.noise, n)
 }
 
-// More bytes than that would have been taken.
+// The bytes taken and so many more are above the limit.
 fn too_many(taken: usize, more: usize) -> bool
     ensures { λ r. ⌜ r ≡ ltb limit (taken + more) ⌝ }
 {
@@ -334,8 +334,8 @@ fn too_many(taken: usize, more: usize) -> bool
     LIMIT - taken < more
 }
 
-// What a feed makes of a record: by 1 behind the end, by 21 where the bytes would be too many, and then nothing changes. The caller below
-// lends the room of a record.
+// What a feed makes of a record: 1 behind the end, 21 where the bytes would be too many, and then nothing changes. The caller below lends
+// the room of a record.
 fn take(room: &mut [u8], held: Held, input: &[u8]) -> Turn
     requires { ⌜ length (now room) ≡ whole ⌝ }
     ensures { λ r. ⌜ Turns (feeding (recordIn (now (room .entry)) held) (now (input .entry))) (now (room .exit)) r ⌝ }
@@ -360,8 +360,8 @@ fn take(room: &mut [u8], held: Held, input: &[u8]) -> Turn
 }
 
 // Takes bytes up to the end of the next message, or all if none ends, and tells how many, with the report or that none has ended. Refused by
-// 1 behind the end, by 21 where more than LIMIT bytes would have been taken: then nothing changes. The room is copied in here and out, and
-// lent in between.
+// 1 behind the end, by 21 where the input's length and the bytes taken so far add up to more than LIMIT: then nothing changes. The room is
+// copied in here and out, and lent in between.
 pub fn feed(state: Cable, input: &[u8]) -> Step
     ensures { λ r. ⌜ r ≡ feeding state (now (input .entry)) ⌝ }
 {

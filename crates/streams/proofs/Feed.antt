@@ -1,6 +1,6 @@
 -- One call that is fed bytes, byte by byte: inside a message it passes over the body, outside over what stands before an F0H, and the first report
 -- ends it. So what the two states make of the bytes is what the call gives, then what they make of the rest.
-use mathlib.Core.Path.{_≡_, refl, ap}
+use mathlib.Core.Path.{_≡_, refl, sym, _∙_}
 use mathlib.Core.Bool.{Bool, true, false, cond}
 use mathlib.Core.List.{List, [], _∷_, _++_, append-nil}
 use mathlib.Core.Option.{Option, none, some}
@@ -92,16 +92,28 @@ module _ (judge : List ℕ → Verdict) where
       go [] t h = omega arith
       go (r ∷ rs) t h = own-within (byteKind b) (length s)
 
-  pub taken-stops : (s : List ℕ) (p : ℕ) (st : State) → let t = taken judge p st s in Stops s (t .count) (t .state) (t .ended)
+  abbrev StopsAt : ℕ → List ℕ → Taken → Type 0
+  StopsAt p s t = Stops p s (t .count) (t .state) (t .ended)
+
+  -- One byte before what stops.
+  stops-later : (p b : ℕ) (s : List ℕ) (t : Taken) → StopsAt (suc p) s t → StopsAt p (b ∷ s) (taking (suc (t .count)) (t .state) (t .ended))
+  stops-later p b s t (at-an-end e q l o) = at-an-end e q (l ∙ sym (further p (t .count))) o
+  stops-later p b s t (at-all q l) = at-all q (rw l)
+
+  pub taken-stops : (s : List ℕ) (p : ℕ) (st : State) → StopsAt p s (taken judge p st s)
   taken-stops [] p st = at-all refl refl
-  taken-stops (b ∷ s) p st =
-      go (emit judge (byteKind b) p st) (taken judge (suc p) (next (byteKind b) b p st) s) (taken-stops s (suc p) (next (byteKind b) b p st))
+  taken-stops (b ∷ s) p outside =
+      let st = next (byteKind b) b p outside in
+      stops-later p b s (taken judge (suc p) st s) (taken-stops s (suc p) st)
+  taken-stops (b ∷ s) p (inside f c k) = by-kind (byteKind b) (taken-stops s (suc p))
     where
-      go : (rs : List Report) (t : Taken) → Stops s (t .count) (t .state) (t .ended)
-          → let u = onward (byteKind b) rs t in Stops (b ∷ s) (u .count) (u .state) (u .ended)
-      go [] t (at-an-end e q o) = at-an-end e q o
-      go [] t (at-all q l) = at-all q (rw l)
-      go (r ∷ rs) t h = at-an-end r refl refl
+      by-kind : (q : ByteKind) → ((st : State) → StopsAt (suc p) s (taken judge (suc p) st s))
+          → StopsAt p (b ∷ s) (onward q (emit judge q p (inside f c k)) (taken judge (suc p) (next q b p (inside f c k)) s))
+      by-kind dataByte i = let st = inside f (c ++ (b ∷ [])) k in stops-later p b s (taken judge (suc p) st s) (i st)
+      by-kind exclusive i = at-an-end _ refl (sym (add-zero p)) refl
+      by-kind endOfExclusive i = at-an-end _ refl (omega arith) refl
+      by-kind otherStatus i = at-an-end _ refl (sym (add-zero p)) refl
+      by-kind realTime i = let st = inside f c (suc k) in stops-later p b s (taken judge (suc p) st s) (i st)
 
   -- A message that ends was closed or interrupted.
   pub taken-ends : (s : List ℕ) (p : ℕ) (st : State) → EndsSo judge (taken judge p st s .ended)

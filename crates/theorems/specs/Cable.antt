@@ -9,7 +9,7 @@ use Rattle.answers.specs.Table.{Verdict}
 use Rattle.streams.specs.Stream.{report}
 use Rattle.streams.specs.promises.Noise.{Counted}
 use Rattle.reading.specs.code.Told.{reportAs}
-use Rattle.cable.specs.Cable.{limit, freshRecord, ending}
+use Rattle.cable.specs.Cable.{freshRecord, ending}
 use Rattle.cable.specs.promises.Answers.{Answers}
 use Rattle.cable.specs.promises.Cuts.{Entry, given, entryOf, run, EveryCut}
 use Rattle.theorems.specs.Answers.{found, complete}
@@ -23,7 +23,7 @@ fromCable ns s = let r = run ns freshRecord s in r .entries ++ given (ending (r 
 
 -- A way of cutting by which all of a stream is taken; there is one for every stream, and 2n feeds with bytes are always enough (`EveryCut`).
 pub record Cut (s : List ℕ) (ns : List ℕ) : Type 0 where
-  pub short : length s ≤ limit
+  pub short : length s ≤ 4294967295
   pub all : run ns freshRecord s .left ≡ []
 
 abbrev pub startOf : Entry → ℕ

@@ -16,7 +16,7 @@ use Rattle.reading.specs.code.Told.{reads}
 use Rattle.reading.specs.declared.recording.Reading.{Reading}
 use Rattle.cable.specs.declared.Cable.{Cable}
 use Rattle.cable.specs.declared.Step.{Step}
-use Rattle.cable.specs.Cable.{limit, packedBy, freshRecord, told, feeding, ending}
+use Rattle.cable.specs.Cable.{packedBy, freshRecord, told, feeding, ending}
 
 -- A report with its record: its numbers and the bytes that come with its answer, and a dump's packed bytes.
 abbrev pub Entry : Type 0
@@ -30,12 +30,13 @@ given x = cond (x .fed .ended) ((x .fed .reading, packedBy (x .state)) ∷ []) [
 abbrev pub entryOf : stream.Report → Entry
 entryOf r = (told 0 (some r) .reading, packedIn (r .verdict))
 
--- A way of cutting is how many of the bytes that are left each feed has. What the feeds gave, the record behind them, and the bytes not yet taken.
+-- What feeds gave one after the other, the record behind them, and the bytes not yet taken.
 pub record Run : Type 0 where
   pub entries : List Entry
   pub state : Cable
   pub left : List ℕ
 
+-- A way of cutting is how many of the bytes that are left each feed has; those not taken are fed again.
 abbrev pub run : List ℕ → Cable → List ℕ → Run
 run [] c s = record { entries = []; state = c; left = s }
 run (n ∷ ns) c s =
@@ -43,7 +44,7 @@ run (n ∷ ns) c s =
     let r = run ns (x .state) (drop (x .fed .taken) s) in
     record { entries = given x ++ r .entries; state = r .state; left = r .left }
 
--- The feeds that have bytes in them, as long as bytes are left.
+-- How many of the feeds have bytes in them, if any are left.
 abbrev pub withBytes : List ℕ → ℕ
 withBytes [] = 0
 withBytes (zero ∷ ns) = withBytes ns
@@ -64,7 +65,7 @@ pub record AsTheFile (s : List ℕ) : Type 0 where
   pub as-read : All (ReadSo s) (stream.reports judge s)
 
 pub record EveryCut : Type 0 where
-  pub as-the-file : (s : List ℕ) → length s ≤ limit → AsTheFile s
+  pub as-the-file : (s : List ℕ) → length s ≤ 4294967295 → AsTheFile s
   -- a feed with bytes that takes none gives a report, and the next one takes some
-  pub gets-on : (c : Cable) (s : List ℕ) → c .over ≡ false → c .taken + length s ≤ limit → 0 < length s → feeding c s .fed .taken ≡ 0
-      → (feeding c s .fed .ended ≡ true) × ((t : List ℕ) → c .taken + length t ≤ limit → 0 < length t → 0 < feeding (feeding c s .state) t .fed .taken)
+  pub gets-on : (c : Cable) (s : List ℕ) → c .over ≡ false → c .taken + length s ≤ 4294967295 → 0 < length s → feeding c s .fed .taken ≡ 0
+      → (feeding c s .fed .ended ≡ true) × ((t : List ℕ) → c .taken + length t ≤ 4294967295 → 0 < length t → 0 < feeding (feeding c s .state) t .fed .taken)

@@ -14,10 +14,10 @@ abbrev pub listOf : Option Report → List Report
 listOf none = []
 listOf (some r) = r ∷ []
 
--- Of the bytes xs a call takes some and ends a message, or all and ends none.
-pub data Stops (xs : List ℕ) (n : ℕ) (st : State) (r : Option Report) : Type 0 where
-  at-an-end : (e : Report) → r ≡ some e → st ≡ outside → Stops xs n st r
-  at-all : r ≡ none → n ≡ length xs → Stops xs n st r
+-- Of the bytes xs, the first at place p, a call takes n: up to the end of the message whose report it gives, which may be none of them, or all.
+pub data Stops (p : ℕ) (xs : List ℕ) (n : ℕ) (st : State) (r : Option Report) : Type 0 where
+  at-an-end : (e : Report) → r ≡ some e → e .end ≡ p + n → st ≡ outside → Stops p xs n st r
+  at-all : r ≡ none → n ≡ length xs → Stops p xs n st r
 
 -- No more real time stands in the message that is open than bytes before place p.
 abbrev pub Within : ℕ → State → Type 0
@@ -36,7 +36,7 @@ module _ (judge : List ℕ → Verdict) where
 
   pub record Fed (p : ℕ) (st : State) (xs : List ℕ) : Type 0 where
     pub within : taken judge p st xs .count ≤ length xs
-    pub stops : Stops xs (taken judge p st xs .count) (taken judge p st xs .state) (taken judge p st xs .ended)
+    pub stops : Stops p xs (taken judge p st xs .count) (taken judge p st xs .state) (taken judge p st xs .ended)
     -- whatever is fed behind them: the states' reports are this call's, then those from where it stopped, bytes not taken being fed again
     pub onward : (ys : List ℕ) → let t = taken judge p st xs in
         scan judge p st (xs ++ ys) ≡ listOf (t .ended) ++ scan judge (p + t .count) (t .state) (drop (t .count) xs ++ ys)
