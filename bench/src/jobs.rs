@@ -31,7 +31,7 @@ const MANY: usize = 100;
 /// How many edits make a patch another in every parameter and every bus.
 const PARTS: usize = 96 + 10;
 
-pub fn all() -> [Job; 18] {
+pub fn all() -> [Job; 23] {
     let mut random = Random::new(SEED);
     let bank = good_patches(&mut random, BANK_PATCHES);
     let banks: Vec<u8> = bank_dumps(&bank).into_iter().cycle().take(BANKS).collect();
@@ -53,11 +53,16 @@ pub fn all() -> [Job; 18] {
         reports("reports-noise", noise.clone()),
         reports("reports-starts", starts),
         read(banks.clone()),
-        cable("cable-dumps-1", banks.clone(), 1),
-        cable("cable-dumps-16", banks.clone(), 16),
-        cable("cable-dumps-256", banks.clone(), 256),
-        cable("cable-dumps-4096", banks, 4096),
-        cable("cable-noise-16", noise, 16),
+        cable("cable-dumps-1", banks.clone(), 1, in_place),
+        cable("cable-dumps-16", banks.clone(), 16, in_place),
+        cable("cable-dumps-256", banks.clone(), 256, in_place),
+        cable("cable-dumps-4096", banks.clone(), 4096, in_place),
+        cable("cable-noise-16", noise.clone(), 16, in_place),
+        cable("cable-by-value-1", banks.clone(), 1, by_value),
+        cable("cable-by-value-16", banks.clone(), 16, by_value),
+        cable("cable-by-value-256", banks.clone(), 256, by_value),
+        cable("cable-by-value-4096", banks, 4096, by_value),
+        cable("cable-by-value-noise-16", noise, 16, by_value),
         test_patch(patches),
         values(patch),
         write_bank(bank),
@@ -161,9 +166,32 @@ fn read(input: Vec<u8>) -> Job {
     }
 }
 
+/// Plain Rust's reader is fed where it is.
+fn in_place(reader: &mut CableReader, piece: &[u8]) -> Fed {
+    reader.feed(piece)
+}
+
+/// Plain Rust's reader in the library's form: its record goes in by value and comes back.
+#[inline(never)]
+fn by_value(reader: &mut CableReader, piece: &[u8]) -> Fed {
+    let (next, fed) = step(reader.clone(), piece);
+    *reader = next;
+    fed
+}
+
+fn step(mut reader: CableReader, piece: &[u8]) -> (CableReader, Fed) {
+    let fed = reader.feed(piece);
+    (reader, fed)
+}
+
 /// A stream straight from the cable in pieces of one size, bytes not taken being fed again. Every packed
 /// byte of a dump is read.
-fn cable(name: &'static str, input: Vec<u8>, size: usize) -> Job {
+fn cable(
+    name: &'static str,
+    input: Vec<u8>,
+    size: usize,
+    feed: impl Fn(&mut CableReader, &[u8]) -> Fed + 'static,
+) -> Job {
     let other = input.clone();
     Job {
         name,
@@ -189,7 +217,7 @@ fn cable(name: &'static str, input: Vec<u8>, size: usize) -> Job {
             let mut all = 0;
             for mut piece in black_box(other.as_slice()).chunks(size) {
                 while !piece.is_empty() {
-                    let fed = reader.feed(piece);
+                    let fed = feed(&mut reader, piece);
                     piece = &piece[fed.taken..];
                     if fed.ended {
                         let packed = added(reader.packed());
