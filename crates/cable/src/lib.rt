@@ -1,12 +1,17 @@
 // Reading straight from the cable: a reader that is fed what has arrived so far. Its record goes in by value and comes back with what the
 // call tells; `exports` has the same with the record lent.
+pub mod room;
+
+use crate::room::append;
+use crate::room::clear;
+use crate::room::least_of;
+use crate::room::put_all;
 use answers::CUT;
 use answers::DONE;
 use answers::INTERRUPTED;
 use answers::NO_MESSAGE;
 use answers::Outcome;
 use answers::TOO_MANY;
-use frames::END;
 use judging::Judged;
 use messages::kinds::MasterParameters;
 use messages::kinds::kind_of;
@@ -15,20 +20,19 @@ use reading::recording::Reading;
 use reading::walking::Report;
 ghost use mathlib.Core.Path.{_≡_};
 ghost use mathlib.Core.Bool.{true, false};
-ghost use mathlib.Core.List.{[], _++_};
+ghost use mathlib.Core.List.{[]};
 ghost use mathlib.Core.Option.{some};
 ghost use Prim.Native.Nat.{_+_, _≤_};
 ghost use lib.Dec.{ltb};
-ghost use lib.ListN.{length, take, replicate};
+ghost use lib.ListN.{length};
 ghost use Rattle.answers.specs.Table.{refused, outcome};
-ghost use Rattle.streams.specs.Bytes.{withoutRealTime, realTimeIn};
 ghost use Rattle.streams.specs.Stream.{report};
 ghost use Rattle.streams.specs.Feed.{taken};
 ghost use Rattle.streams.specs.code.Scan.{outside};
 ghost use Rattle.messages.specs.Judge.{judge};
 ghost use Rattle.judging.specs.code.Judged.{refusedBy};
-ghost use Rattle.cable.specs.Cable.{limit, least, room as whole, cleared, resting, freshRecord, noReport, told, stepBy, goes, feeding, ending};
-ghost use Rattle.cable.specs.code.Steps.{Kept, recordIn, sizeTold, endedAs, openAs, Turns};
+ghost use Rattle.cable.specs.Cable.{limit, least, room as roomSize, cleared, resting, freshRecord, noReport, told, stepBy, goes, feeding, ending};
+ghost use Rattle.cable.specs.code.Steps.{recordIn, sizeTold, endedAs, openAs, Turns};
 
 // So many bytes are taken at most.
 pub const LIMIT: usize = 4294967295;
@@ -79,76 +83,6 @@ struct Held {
 struct Turn {
     held: Held,
     fed: Fed,
-}
-
-// The lesser of two numbers.
-fn least_of(a: usize, b: usize) -> usize
-    ensures { λ r. ⌜ r ≡ least a b ⌝ }
-{
-    if b < a {
-        return b;
-    }
-    a
-}
-
-// Bytes at the start of a lent output, as many as fit, and how many these are.
-fn put_all(bytes: &[u8], out: &mut [u8]) -> usize
-    ensures { λ r. ⌜ Kept (now (bytes .entry)) (now (out .entry)) (now (out .exit)) r ⌝ }
-{
-    let n = least_of(bytes.len(), out.len());
-    let mut i: usize = 0;
-    while i < n {
-        out[i] = bytes[i];
-        i += 1;
-    }
-    n
-}
-
-// The same of those that are not real time.
-fn put_quiet(bytes: &[u8], out: &mut [u8]) -> usize
-    ensures { λ r. ⌜ Kept (withoutRealTime (now (bytes .entry))) (now (out .entry)) (now (out .exit)) r ⌝ }
-{
-    let mut n: usize = 0;
-    let mut i: usize = 0;
-    while i < bytes.len() {
-        let b = bytes[i];
-        if END < b {
-            i += 1;
-        } else if n < out.len() {
-            out[n] = b;
-            n += 1;
-            i += 1;
-        } else {
-            return n;
-        }
-    }
-    n
-}
-
-// More bytes behind the first ones of a room, real time dropped, as many as fit; and how many stand there then. The callers below have
-// counted the real time.
-fn append(room: &mut [u8], count: usize, more: &[u8], noise: usize) -> usize
-    requires { ⌜ noise ≡ realTimeIn (now more) ⌝ }
-    ensures { λ r. ⌜ Kept (take count (now (room .entry)) ++ withoutRealTime (now (more .entry))) (now (room .entry)) (now (room .exit)) r ⌝ }
-{
-    if room.len() <= count {
-        return room.len();
-    }
-    if noise == 0 {
-        return count + put_all(more, &mut room[count..]);
-    }
-    count + put_quiet(more, &mut room[count..])
-}
-
-// A room of zeros.
-fn clear(room: &mut [u8])
-    ensures { λ _. ⌜ now (room .exit) ≡ replicate (length (now (room .entry))) 0 ⌝ }
-{
-    let mut i: usize = 0;
-    while i < room.len() {
-        room[i] = 0;
-        i += 1;
-    }
 }
 
 // No message is open, and no packed bytes are there.
@@ -263,7 +197,7 @@ fn interrupted() -> Judged
 // Inside a message: on to its end, or all of the input. The caller below has seen that one is open, that the room is a record's, and
 // that the places fit.
 fn follow(room: &mut [u8], held: Held, input: &[u8]) -> Turn
-    requires { ⌜ (held .inside ≡ true) × (length (now room) ≡ whole) × (held .taken + length (now input) ≤ limit) ⌝ }
+    requires { ⌜ (held .inside ≡ true) × (length (now room) ≡ roomSize) × (held .taken + length (now input) ≤ limit) ⌝ }
     ensures { λ r. ⌜ Turns (goes (recordIn (now (room .entry)) held) (now (input .entry))) (now (room .exit)) r ⌝ }
 {
     let start = held.start;
@@ -289,7 +223,7 @@ fn follow(room: &mut [u8], held: Held, input: &[u8]) -> Turn
 // Outside a message: on to the end of the next one, or all of the input. A message that stands there whole is read where it stands. The
 // caller below has seen that the room is a record's, and that the places fit.
 fn seek(room: &mut [u8], place: usize, input: &[u8]) -> Turn
-    requires { ⌜ (length (now room) ≡ whole) × (place + length (now input) ≤ limit) ⌝ }
+    requires { ⌜ (length (now room) ≡ roomSize) × (place + length (now input) ≤ limit) ⌝ }
     ensures { λ r. ⌜ Turns (stepBy cleared place (taken judge place outside (now (input .entry)))) (now (room .exit)) r ⌝ }
 {
     clear(room);
@@ -337,7 +271,7 @@ fn too_many(taken: usize, more: usize) -> bool
 // What a feed makes of a record: 1 behind the end, 21 where the bytes would be too many, and then nothing changes. The caller below lends
 // the room of a record.
 fn take(room: &mut [u8], held: Held, input: &[u8]) -> Turn
-    requires { ⌜ length (now room) ≡ whole ⌝ }
+    requires { ⌜ length (now room) ≡ roomSize ⌝ }
     ensures { λ r. ⌜ Turns (feeding (recordIn (now (room .entry)) held) (now (input .entry))) (now (room .exit)) r ⌝ }
 {
     let place = held.taken;

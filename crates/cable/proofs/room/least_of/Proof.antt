@@ -1,7 +1,7 @@
 -- `least_of` by the test that it makes.
 use borrow.Author.Tests.{lt-ltb, le-ltb}
-use Rattle.cable.proofs.least_of.Statement.{statement}
-use Rattle.cable.proofs.least_of.Tie as tie
+use Rattle.cable.proofs.room.least_of.Statement.{statement}
+use Rattle.cable.proofs.room.least_of.Tie as tie
 
 returns : tie.Need-returns
 returns c = rw (lt-ltb _ _ (c .if1 .taken))

@@ -7,8 +7,8 @@ use borrow.Author.Needs.{needs}
 use Rattle.streams.specs.Bytes.{withoutRealTime}
 use Rattle.streams.proofs.Noise.{all-kept}
 use Rattle.cable.proofs.Kept.{array-full, array-within, array-grown}
-use Rattle.cable.proofs.append.Statement.{statement}
-use Rattle.cable.proofs.append.Tie as tie
+use Rattle.cable.proofs.room.append.Statement.{statement}
+use Rattle.cable.proofs.room.append.Tie as tie
 
 returns : tie.Need-returns
 returns c = let a = c .before .before .before .args in array-full (a .room .now) (withoutRealTime (a .more .now)) (a .count) _ refl (c .if1 .taken)

@@ -9,8 +9,8 @@ use lib.Seq.{take-suc, length-take-le}
 use borrow.Author.Needs.{needs}
 use Rattle.answers.proofs.Copied.{Copied, copied-next}
 use Rattle.cable.proofs.Kept.{least-within, kept-least}
-use Rattle.cable.proofs.put_all.Statement.{statement}
-use Rattle.cable.proofs.put_all.Tie as tie
+use Rattle.cable.proofs.room.put_all.Statement.{statement}
+use Rattle.cable.proofs.room.put_all.Tie as tie
 
 abbrev Inv-loop : tie.InvT-loop
 Inv-loop bytes out₀ n i₀ out i = (n ≤ length bytes) × (n ≤ length out₀) × Copied (λ j. take j bytes) n out₀ out i

@@ -11,8 +11,8 @@ use Rattle.streams.proofs.Bytes.{kind-is, stays}
 use Rattle.streams.proofs.Complete.{without-append}
 use Rattle.cable.specs.code.Steps.{Kept}
 use Rattle.cable.proofs.Kept.{kept-more, kept-full}
-use Rattle.cable.proofs.put_quiet.Statement.{statement}
-use Rattle.cable.proofs.put_quiet.Tie as tie
+use Rattle.cable.proofs.room.put_quiet.Statement.{statement}
+use Rattle.cable.proofs.room.put_quiet.Tie as tie
 
 -- Real time at an index is dropped, any other byte is kept.
 module _ (s : List ℕ) (i : ℕ) (h : i < length s) where

@@ -6,8 +6,8 @@ use native.Mathlib.Numerals.{add-one}
 use native.Mathlib.Omega.{arith}
 use lib.ListN.{length, replicate, length-replicate, drop-of-length-le}
 use Rattle.answers.proofs.Copied.{Copied, copied-next}
-use Rattle.cable.proofs.clear.Statement.{statement}
-use Rattle.cable.proofs.clear.Tie as tie
+use Rattle.cable.proofs.room.clear.Statement.{statement}
+use Rattle.cable.proofs.room.clear.Tie as tie
 
 abbrev zeros : ℕ → List ℕ
 zeros n = replicate n 0
