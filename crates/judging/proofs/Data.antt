@@ -1,13 +1,12 @@
 -- What packing a dump's data into a buffer that just fits it tells: 9, or the packed bytes.
 use mathlib.Core.Path.{_≡_, refl, sym, ap, _∙_}
-use mathlib.Core.List.{List, [], _++_, append-nil}
+use mathlib.Core.List.{List, [], append-nil}
 use mathlib.Core.Option.{Option, none, some}
 use Prim.Native.Nat.{ℕ, _*_, _/_, _%_, _≤_}
 use native.Mathlib.Omega.{arith}
-use lib.ListN.{length, take, drop, drop-of-length-le}
-use lib.Seq.{take-at}
+use lib.ListN.{length, drop, drop-of-length-le}
 use borrow.Author.Tests.{eq-eqb, ne-eqb}
-use Rattle.answers.specs.Table.{Row, outcome}
+use Rattle.answers.specs.Table.{outcome}
 use Rattle.answers.specs.Effect.{Gives, tested}
 use Rattle.answers.specs.declared.Outcome.{Outcome}
 use Rattle.nibbles.specs.Nibbles.{pack, sum, firstWide, packing}
@@ -19,7 +18,7 @@ use Rattle.ranges.specs.declared.Failed.{Failed}
 use Rattle.ranges.specs.declared.Failed.the-variants.{At, Nowhere}
 use Rattle.ranges.proofs.Found.{found-some, found-none}
 use Rattle.judging.specs.code.Content.{Gathers}
-use Rattle.judging.specs.code.Judged.{Packs, Checked}
+use Rattle.judging.specs.code.Judged.{Checked}
 
 module _ (ns out after : List ℕ) (p : Outcome) (fits : length ns ≡ 2 * length out) (g : Gives (packing ns out) p after) where
   -- Either a byte is above 15, and the answer is 9 with its index, or the buffer holds the packed bytes and no more.
@@ -107,22 +106,12 @@ data-refusals ns s = omega arith
 
 -- The test of a dump's data: stopped at the data and the sum, or left to the packed bytes.
 module _ (q : PackedBytes) (ns : List ℕ) (s : ℕ) (after : List ℕ) (d : Outcome) (k : Checked ns s after d) where
-  pub data-stopped : (d .answer ≡ 0 → ⊥) → Packs (sentRows q ns s) ns after d
+  pub data-stopped : (d .answer ≡ 0 → ⊥) → d ≡ tested (sentRows q ns s)
   data-stopped n =
       let e = k .outcome in
-      record {
-        outcome = rw (tested-stopped (dataRows ns s) (packedRows q (pack ns)) (λ z. n (ap (λ (o : Outcome). o .answer) e ∙ z))) e;
-        packed = λ z. absurd (n z);
-      }
+      rw (tested-stopped (dataRows ns s) (packedRows q (pack ns)) (λ z. n (ap (λ (o : Outcome). o .answer) e ∙ z))) e
 
-  pub data-left : d .answer ≡ 0 → (r : Outcome) → r ≡ tested (packedRows q after) → Packs (sentRows q ns s) ns after r
-  data-left z r t =
-      let a = sym (ap (λ (o : Outcome). o .answer) (k .outcome)) ∙ z in
-      record {
-        outcome = t ∙ rw (k .packed z, tested-passed-on (dataRows ns s) (packedRows q (pack ns)) (data-refusals ns s) a);
-        packed = λ _. k .packed z;
-      }
-
--- The packed bytes at the start of a room, of which a part was lent.
-pub packs-front : (rows : List Row) (d ys rest : List ℕ) (r : Outcome) (n : ℕ) → length ys ≡ n → Packs rows d ys r → Packs rows d (take n (ys ++ rest)) r
-packs-front rows d ys rest r n l k = rw (take-at ys rest n l) k
+  pub data-left : d .answer ≡ 0 → tested (packedRows q after) ≡ tested (sentRows q ns s)
+  data-left z =
+      let e = k .outcome in
+      rw (k .packed z, tested-passed-on (dataRows ns s) (packedRows q (pack ns)) (data-refusals ns s) (sym (ap (λ (o : Outcome). o .answer) e) ∙ z))

@@ -1,14 +1,13 @@
 -- A message's packed bytes in a lent buffer: by the answer that it is given, and by the room there is.
 use mathlib.Core.Path.{_≡_, refl, sym, ap, _∙_}
-use mathlib.Core.List.{List}
+use mathlib.Core.List.{List, _++_}
 use Prim.Native.Nat.{ℕ, zero, suc, _+_, _*_, _≤_, _<_}
 use native.Mathlib.Omega.{arith}
-use lib.ListN.{length, take}
+use lib.ListN.{length, drop}
 use borrow.Author.Tests.{le-leb, lt-leb}
 use Rattle.answers.specs.Table.{Verdict, done, refused, outcome}
-use Rattle.answers.specs.Effect.{atStart, Gives}
+use Rattle.answers.specs.Effect.{Gives}
 use Rattle.streams.specs.Bytes.{framed}
-use Rattle.streams.specs.Stream.{packedIn}
 use Rattle.nibbles.specs.Nibbles.{pack}
 use Rattle.nibbles.proofs.Laws.{length-pack}
 use Rattle.messages.specs.Judge.{judge}
@@ -44,15 +43,19 @@ module _ (c : List ℕ) (j : Judged) (q : j ≡ judged (judge (framed c))) where
         by-size zero h = refl
         by-size (suc n) h = omega (arith, length-pack (sentIn (suc n) c), sent-length (suc n) c (omega (arith, h (omega arith))))
 
-    -- Too short a buffer, and one that fits the packed bytes: these stand at the start of a room.
+    -- Too short a buffer, and one with room.
     pub record-short : (lent : List ℕ) (r : Judged) → length lent < its .size → r ≡ refusedBy (outcome 13 0)
         → Gives (recordedAs (judge (framed c)) lent) r lent
     record-short lent r h k =
         rw (its .verdict, lt-leb (length (packed c its)) (length lent) (omega (arith, packed-length))) (record { result = k; lent = refl })
 
-    pub record-stored : (room lent after : List ℕ) → (let p = packedIn (judge (framed c)) in take (length p) room ≡ p) → its .size ≤ length lent
-        → after ≡ atStart (take (its .size) room) lent → Gives (recordedAs (judge (framed c)) lent) j after
-    record-stored room lent after there h s =
-        let front : take (its .size) room ≡ packed c its = rw (its .verdict, packed-length) at there in
+    pub record-stored : (lent after : List ℕ) → its .size ≤ length lent → after ≡ packed c its ++ drop (its .size) lent
+        → Gives (recordedAs (judge (framed c)) lent) j after
+    record-stored lent after h s =
         rw (its .verdict, le-leb (length (packed c its)) (length lent) (omega (arith, packed-length)))
-        (record { result = q ∙ rw (its .verdict); lent = s ∙ rw front })
+        (record { result = q ∙ rw (its .verdict); lent = s ∙ rw packed-length })
+
+    -- A message that is no dump leaves the buffer as it was.
+    pub nothing-packed : (lent : List ℕ) → its .size ≡ 0 → lent ≡ packed c its ++ drop (its .size) lent
+    unfolding pack
+    nothing-packed lent k = rw k

@@ -3,29 +3,25 @@
 use mathlib.Core.Path.{_≡_, refl, sym, ap, _∙_}
 use mathlib.Core.Bool.{false}
 use mathlib.Core.List.{List, [], _∷_}
-use mathlib.Core.Option.{Option, none, some}
-use Prim.Native.Nat.{ℕ, zero, suc, _+_, _*_, _≤_}
+use Prim.Native.Nat.{ℕ, _+_, _*_, _≤_}
 use native.Mathlib.Omega.{arith}
 use lib.Dec.{T}
 use lib.ListN.{length, take, drop, getD}
 use borrow.Author.Tests.{eq-eqb, ne-eqb}
 use Rattle.answers.specs.declared.Outcome.{Outcome}
-use Rattle.answers.specs.Table.{Row, Verdict, says, unless, refused, first, outcome, four}
+use Rattle.answers.specs.Table.{Row, refused, first, outcome, four}
 use Rattle.answers.specs.Effect.{tested}
 use Rattle.answers.proofs.Rows.{Refusals, first-passed, first-stopped}
 use Rattle.answers.proofs.Effects.{passed}
 use Rattle.streams.specs.Bytes.{framed}
-use Rattle.streams.specs.Stream.{packedIn}
-use Rattle.nibbles.specs.Nibbles.{pack}
 use Rattle.messages.specs.declared.kinds.Dump.{Dump}
 use Rattle.messages.specs.declared.kinds.Kind.{Kind}
 use Rattle.messages.specs.declared.kinds.Kind.the-variants.{Dump as ofDump, Short as ofShort}
 use Rattle.messages.specs.declared.kinds.Short.{Short}
 use Rattle.messages.specs.Kinds.{kindOf, opcodeOf, sizeOf, countOf, lengthOf, isUnknown}
-use Rattle.messages.specs.Judge.{byteAt, dumpRows, operandRows, numberIn, packedOf, kindRows, kindTable, recordOf, judge}
-use Rattle.judging.specs.declared.Judged.{Judged}
+use Rattle.messages.specs.Judge.{byteAt, dumpRows, operandRows, numberIn, kindRows, recordOf, judge}
 use Rattle.judging.specs.code.Content.{sentIn, sumIn}
-use Rattle.judging.specs.code.Judged.{kindVerdict, judged, judgedAs, refusedBy, JudgedIn}
+use Rattle.judging.specs.code.Judged.{kindVerdict, judged, judgedAs, refusedBy}
 use Rattle.messages.specs.code.Sizes.{sized}
 use Rattle.messages.proofs.Filed.{is-sized}
 use Rattle.messages.proofs.DumpLaws.{dump-refusals}
@@ -54,11 +50,8 @@ module _ {k : Kind} {c : List ℕ} {rows : List Row} {bytes : List ℕ} (i : Jud
     pub kind-stopped : (d .answer ≡ 0 → ⊥) → refusedBy d ≡ judged (kindVerdict k (framed c))
     kind-stopped n = rw (t, whole, first-stopped rows (recordOf k (framed c)) (λ z. n (ap (λ (o : Outcome). o .answer) t ∙ z)))
 
-    kind-passed : d .answer ≡ 0 → kindVerdict k (framed c) ≡ recordOf k (framed c)
-    kind-passed z = whole ∙ first-passed rows (recordOf k (framed c)) (passed rows d (i .refusals) t z)
-
     pub kind-done : d .answer ≡ 0 → judgedAs (opcodeOf k) bytes ≡ judged (kindVerdict k (framed c))
-    kind-done z = rw (kind-passed z) (sym (i .accepts l))
+    kind-done z = rw (whole, first-passed rows (recordOf k (framed c)) (passed rows d (i .refusals) t z)) (sym (i .accepts l))
 
 -- What the code tests of a dump behind its length, from the content.
 abbrev pub contentRows : Dump → List ℕ → List Row
@@ -81,40 +74,6 @@ of-short k s c = record {
   refusals = operand-refusals (k .operands) (drop 3 c);
   accepts = λ l. rw (framed-bytes (countOf (k .operands)) c (omega (arith, is-sized (ofShort k) s .0)));
 }
-
--- Of a message that is refused nothing is told of the room.
-pub refused-in : {v : Verdict} {after : List ℕ} {r : Judged} (o : Outcome) → (o .answer ≡ 0 → ⊥) → r ≡ refusedBy o → refusedBy o ≡ judged v → JudgedIn v after r
-refused-in o n e q = record { result = e ∙ q; packed = λ z. absurd (n (sym (ap (λ (j : Judged). j .outcome .answer) e) ∙ z)) }
-
--- A dump that passes has left there what its data pack to.
-module _ (k : Dump) (s : T (sized (ofDump k))) (c : List ℕ) (l : length c + 2 ≡ k .length) {d : Outcome} (t : d ≡ tested (contentRows k c)) where
-  dump-packed : d .answer ≡ 0 → packedIn (kindVerdict (ofDump k) (framed c)) ≡ pack (sentIn (sizeOf (k .packed)) c)
-  unfolding packedOf
-  dump-packed z =
-      let long : length c ≡ 5 + 2 * sizeOf (k .packed) = omega (arith, is-sized (ofDump k) s .0) in
-      ap packedIn (kind-passed (of-dump k s c) l t z) ∙ rw (framed-data (sizeOf (k .packed)) c long)
-
-  pub dump-left : d .answer ≡ 0 → (after : List ℕ) → take (sizeOf (k .packed)) after ≡ pack (sentIn (sizeOf (k .packed)) c)
-      → let p = packedIn (kindVerdict (ofDump k) (framed c)) in take (length p) after ≡ p
-  dump-left z after e = rw (dump-packed z, ← e) (own (sizeOf (k .packed)) after)
-    where
-      own : (n : ℕ) (s : List ℕ) → take (length (take n s)) s ≡ take n s
-      own zero s = refl
-      own (suc n) [] = refl
-      own (suc n) (x ∷ s) = ap (λ (r : List ℕ). x ∷ r) (own n s)
-
--- A short message packs nothing.
-pub short-packed : (k : Short) (m : List ℕ) → packedIn (kindVerdict (ofShort k) m) ≡ []
-unfolding kindVerdict
-short-packed k m = by-rows (kindTable (ofShort k) m)
-  where
-    by-said : (o : Option Outcome) (v : Verdict) → packedIn v ≡ [] → packedIn (unless o v) ≡ []
-    by-said none v e = e
-    by-said (some o) v e = refl
-
-    by-rows : (rows : List Row) → packedIn (first rows (recordOf (ofShort k) m)) ≡ []
-    by-rows [] = refl
-    by-rows (r ∷ rows) = by-said (says r) (first rows (recordOf (ofShort k) m)) (by-rows rows)
 
 -- Of four bytes, zero behind the last, the first so many are the bytes themselves.
 pub four-front : (l : List ℕ) → length l ≤ 4 → take (length l) (four l) ≡ l

@@ -113,7 +113,7 @@ fn gather(body: &[u8], packed: &mut [u8]) -> Failed
     Failed::Nowhere
 }
 
-// A dump's data, packed: the first byte above 15, or the packed bytes. The caller has counted the content, and seen that it has a byte
+// A dump's data, packed: the first byte above 15, or the packed bytes. The callers have counted the content, and seen that it has a byte
 // behind them.
 pub(crate) fn pack_data(body: &[u8], count: usize, packed: &mut [u8]) -> Failed
     requires { ⌜ (count ≡ length (contentBy count (now body))) × (4 + 2 * length (now packed) < count) ⌝ }

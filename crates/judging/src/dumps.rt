@@ -15,6 +15,7 @@ use answers::WRONG_LENGTH;
 use answers::WRONG_SUM;
 use messages::kinds::Behind;
 use messages::kinds::Dump;
+use messages::kinds::MASTER;
 use messages::kinds::PATCH;
 use messages::kinds::Packed;
 use messages::kinds::size_of;
@@ -23,7 +24,7 @@ ghost use mathlib.Core.Path.{_≡_};
 ghost use mathlib.Core.Bool.{true};
 ghost use Prim.Native.Nat.{_+_, _*_, _≤_, _<_};
 ghost use lib.Dec.{T};
-ghost use lib.ListN.{length, take, getD};
+ghost use lib.ListN.{length, getD};
 ghost use Rattle.answers.specs.Effect.{tested};
 ghost use Rattle.fields.specs.Fields.{size};
 ghost use Rattle.streams.specs.Bytes.{framed};
@@ -33,7 +34,7 @@ ghost use Rattle.messages.specs.Kinds.{sizeOf, master};
 ghost use Rattle.messages.specs.code.Sizes.{sized, lentRows};
 ghost use Rattle.messages.specs.Judge.{sentRows, misnumbered, numberIn};
 ghost use Rattle.judging.specs.code.Content.{contentBy};
-ghost use Rattle.judging.specs.code.Judged.{kindVerdict, JudgedIn, Packs, Checked, CheckedIn, PacksIn};
+ghost use Rattle.judging.specs.code.Judged.{kindVerdict, judged, Checked, CheckedIn, sentRowsIn};
 
 // Where the data bytes of a patch dump end in its content, and its sum stands.
 const PATCH_SENT: usize = FRONT + 2 * PATCH;
@@ -82,7 +83,7 @@ pub fn test_packed(packed: Packed, bytes: &[u8]) -> Outcome
 // The data of a patch, and its fields: 9 to 12, in a room that fits it. The caller below has seen the length.
 fn check_patch(sent: &[u8], sum: u8, room: &mut [u8]) -> Outcome
     requires { ⌜ (length (now sent) ≡ 2 * size) × (length (now room) ≡ size) ⌝ }
-    ensures { λ r. ⌜ Packs (sentRows aPatch (now (sent .entry)) sum) (now (sent .entry)) (now (room .exit)) r ⌝ }
+    ensures { λ r. ⌜ r ≡ tested (sentRows aPatch (now (sent .entry)) sum) ⌝ }
 {
     let data = check_sent(sent, sum, room);
     if data.answer != DONE {
@@ -94,7 +95,7 @@ fn check_patch(sent: &[u8], sum: u8, room: &mut [u8]) -> Outcome
 // The data of any packed bytes, and their own tests, in a room that fits them. The caller below has seen the length.
 fn check_room(packed: Packed, body: &[u8], count: usize, room: &mut [u8]) -> Outcome
     requires { ⌜ ((count ≡ length (contentBy count (now body))) × (count ≡ 5 + 2 * sizeOf packed)) × (length (now room) ≡ sizeOf packed) ⌝ }
-    ensures { λ r. ⌜ PacksIn packed (contentBy count (now (body .entry))) (now (room .exit)) r ⌝ }
+    ensures { λ r. ⌜ r ≡ tested (sentRowsIn packed (contentBy count (now (body .entry)))) ⌝ }
 {
     let data = check_data(body, count, room);
     if data.answer != DONE {
@@ -113,12 +114,12 @@ fn is_plain_patch(packed: Packed, body: &[u8], count: usize) -> bool
     }
 }
 
-// The data and the packed bytes of a dump: 9 to 12. These are left at the start of a room that fits any; so below. The caller below has
-// seen the length.
-fn check_packed(packed: Packed, body: &[u8], count: usize, room: &mut [u8]) -> Outcome
-    requires { ⌜ ((count ≡ length (contentBy count (now body))) × (count ≡ 5 + 2 * sizeOf packed)) × (sizeOf packed ≤ master) × (length (now room) ≡ master) ⌝ }
-    ensures { λ r. ⌜ PacksIn packed (contentBy count (now (body .entry))) (take (sizeOf packed) (now (room .exit))) r ⌝ }
+// The data and the packed bytes of a dump: 9 to 12. The caller below has seen the length.
+fn check_packed(packed: Packed, body: &[u8], count: usize) -> Outcome
+    requires { ⌜ ((count ≡ length (contentBy count (now body))) × (count ≡ 5 + 2 * sizeOf packed)) × (sizeOf packed ≤ master) ⌝ }
+    ensures { λ r. ⌜ r ≡ tested (sentRowsIn packed (contentBy count (now (body .entry)))) ⌝ }
 {
+    let mut room = [0u8; MASTER];
     if is_plain_patch(packed, body, count) {
         // By numbers that the compiler sees.
         return check_patch(
@@ -151,9 +152,9 @@ fn number_of(behind: Behind, byte: u8) -> u8
 }
 
 // A dump: 7, then 8 to 12. The caller has the kind from its opcode.
-pub(crate) fn judge_dump(kind: Dump, body: &[u8], count: usize, room: &mut [u8]) -> Judged
-    requires { ⌜ T (sized (ofDump kind)) × (count ≡ length (contentBy count (now body))) × (length (now room) ≡ master) ⌝ }
-    ensures { λ r. ⌜ JudgedIn (kindVerdict (ofDump kind) (framed (contentBy count (now (body .entry))))) (now (room .exit)) r ⌝ }
+pub(crate) fn judge_dump(kind: Dump, body: &[u8], count: usize) -> Judged
+    requires { ⌜ T (sized (ofDump kind)) × (count ≡ length (contentBy count (now body))) ⌝ }
+    ensures { λ r. ⌜ r ≡ judged (kindVerdict (ofDump kind) (framed (contentBy count (now (body .entry))))) ⌝ }
 {
     if count + 2 != kind.length {
         return refused_by(WRONG_LENGTH);
@@ -164,7 +165,7 @@ pub(crate) fn judge_dump(kind: Dump, body: &[u8], count: usize, room: &mut [u8])
         return refused_by(NOT_ALLOWED);
     }
     let packed = kind.packed;
-    let tested = check_packed(packed, body, count, room);
+    let tested = check_packed(packed, body, count);
     if tested.answer != DONE {
         return refused(tested);
     }

@@ -5,6 +5,7 @@ pub mod shorts;
 
 use crate::content::byte_at;
 use crate::content::count_content;
+use crate::content::pack_data;
 use crate::dumps::judge_dump;
 use crate::shorts::judge_short;
 use answers::DONE;
@@ -17,19 +18,17 @@ use frames::Span;
 use messages::kinds::DEVICE;
 use messages::kinds::Kind;
 use messages::kinds::MAKER;
-use messages::kinds::MASTER;
 use messages::kinds::kind_of;
 use messages::kinds::packed_size;
 ghost use mathlib.Core.Path.{_≡_};
-ghost use Prim.Native.Nat.{_≤_};
 ghost use lib.ListN.{length};
-ghost use Rattle.answers.specs.Effect.{Gives, atStart};
+ghost use Rattle.answers.specs.Effect.{Gives};
 ghost use Rattle.answers.specs.Table.{outcome};
 ghost use Rattle.streams.specs.Bytes.{withoutRealTime, realTimeIn, framed};
-ghost use Rattle.messages.specs.Kinds.{kindOf, master};
+ghost use Rattle.messages.specs.Kinds.{kindOf};
 ghost use Rattle.messages.specs.Judge.{judge};
 ghost use Rattle.judging.specs.code.Content.{contentBy};
-ghost use Rattle.judging.specs.code.Judged.{kindVerdict, judged, judgedAs, refusedBy, JudgedIn, recordedAs};
+ghost use Rattle.judging.specs.code.Judged.{kindVerdict, judged, judgedAs, refusedBy, recordedAs};
 ghost use Rattle.judging.specs.code.Heard.{heardFrom, recordedFrom};
 
 // An outcome, and the bytes that come with it: a patch number, or an edit's two or four; zero where there are none.
@@ -71,36 +70,23 @@ pub(crate) fn accepted(opcode: u8, bytes: [u8; 4]) -> Judged
     }
 }
 
-// Bytes at the start of an output. The caller below has seen that they fit.
-fn put_bytes(bytes: &[u8], out: &mut [u8])
-    requires { ⌜ length (now bytes) ≤ length (now out) ⌝ }
-    ensures { λ _. ⌜ now (out .exit) ≡ atStart (now (bytes .entry)) (now (out .entry)) ⌝ }
-{
-    let mut i: usize = 0;
-    while i < bytes.len() {
-        out[i] = bytes[i];
-        i += 1;
-    }
-}
-
-// The kind by its opcode, 6 for any other. A dump's packed bytes are left at the start of a room that fits any; so below. The caller below
-// has counted the content.
-fn judge_kind(opcode: u8, body: &[u8], count: usize, room: &mut [u8]) -> Judged
-    requires { ⌜ (count ≡ length (contentBy count (now body))) × (length (now room) ≡ master) ⌝ }
-    ensures { λ r. ⌜ JudgedIn (kindVerdict (kindOf opcode) (framed (contentBy count (now (body .entry))))) (now (room .exit)) r ⌝ }
+// The kind by its opcode, 6 for any other. The caller below has counted the content.
+fn judge_kind(opcode: u8, body: &[u8], count: usize) -> Judged
+    requires { ⌜ count ≡ length (contentBy count (now body)) ⌝ }
+    ensures { λ r. ⌜ r ≡ judged (kindVerdict (kindOf opcode) (framed (contentBy count (now (body .entry))))) ⌝ }
 {
     let kind = kind_of(opcode);
     match kind {
-        Kind::Dump(dump) => judge_dump(dump, body, count, room),
+        Kind::Dump(dump) => judge_dump(dump, body, count),
         Kind::Short(short) => judge_short(short, body, count),
         Kind::Unknown => refused_by(OTHER_OPCODE),
     }
 }
 
 // What a complete message comes to, by document 01's table from 4 on. The callers below have counted its content.
-fn judge_content(body: &[u8], count: usize, room: &mut [u8]) -> Judged
-    requires { ⌜ (count ≡ length (contentBy count (now body))) × (length (now room) ≡ master) ⌝ }
-    ensures { λ r. ⌜ JudgedIn (judge (framed (contentBy count (now (body .entry))))) (now (room .exit)) r ⌝ }
+fn judge_content(body: &[u8], count: usize) -> Judged
+    requires { ⌜ count ≡ length (contentBy count (now body)) ⌝ }
+    ensures { λ r. ⌜ r ≡ judged (judge (framed (contentBy count (now (body .entry))))) ⌝ }
 {
     if count < 1 {
         return refused_by(OTHER_MAKER);
@@ -117,7 +103,7 @@ fn judge_content(body: &[u8], count: usize, room: &mut [u8]) -> Judged
     if count < 3 {
         return refused_by(OTHER_OPCODE);
     }
-    judge_kind(byte_at(body, count, 2), body, count, room)
+    judge_kind(byte_at(body, count, 2), body, count)
 }
 
 // What a complete message comes to, from what stands between F0H and F7H. The caller below has counted the real time there.
@@ -125,8 +111,7 @@ fn judge_body(body: &[u8], noise: usize) -> Judged
     requires { ⌜ noise ≡ realTimeIn (now body) ⌝ }
     ensures { λ r. ⌜ r ≡ judged (judge (framed (withoutRealTime (now (body .entry))))) ⌝ }
 {
-    let mut room = [0u8; MASTER];
-    judge_content(body, count_content(body, noise), &mut room)
+    judge_content(body, count_content(body, noise))
 }
 
 // The same with its packed bytes at the start of a lent buffer: as judged, then 13. Refused, the buffer keeps every byte. The callers below
@@ -135,8 +120,7 @@ fn record_content(body: &[u8], count: usize, buffer: &mut [u8]) -> Judged
     requires { ⌜ count ≡ length (contentBy count (now body)) ⌝ }
     ensures { λ r. ⌜ Gives (recordedAs (judge (framed (contentBy count (now (body .entry))))) (now (buffer .entry))) r (now (buffer .exit)) ⌝ }
 {
-    let mut room = [0u8; MASTER];
-    let j = judge_content(body, count, &mut room);
+    let j = judge_content(body, count);
     if j.outcome.answer != DONE {
         return j;
     }
@@ -144,7 +128,9 @@ fn record_content(body: &[u8], count: usize, buffer: &mut [u8]) -> Judged
     if buffer.len() < size {
         return refused_by(NO_ROOM);
     }
-    put_bytes(&room[..size], buffer);
+    if 0 < size {
+        pack_data(body, count, &mut buffer[..size]);
+    }
     j
 }
 

@@ -10,9 +10,7 @@ use Rattle.judging.proofs.judge_body.Statement.{statement}
 use Rattle.judging.proofs.judge_body.Tie as tie
 
 returns : tie.Need-returns
-returns c =
-    let j = c .before in
-    j .judge-content .ensures .result ∙ ap (λ (l : List ℕ). judged (judge (framed l))) (j .before .before .count-content .ensures .same)
+returns c = c .judge-content .ensures ∙ ap (λ (l : List ℕ). judged (judge (framed l))) (c .before .count-content .ensures .same)
 
 pub judge-body-spec : {M : Type 1} → statement M
-judge-body-spec = tie.close (tie.spec (λ c κs. search needs) (λ c. search needs) (λ c κs. search needs) returns)
+judge-body-spec = tie.close (tie.spec (λ c κs. search needs) (λ c κs. search needs) returns)

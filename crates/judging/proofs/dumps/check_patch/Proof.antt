@@ -18,8 +18,8 @@ returns-2 c =
     let at = c .before .before .before .before .before .before in
     let start = at .before .before .before .before in
     let packed = at .check-sent .last .1 .1 .0 in
-    data-left aPatch (start .args .sent .now) (start .args .sum) packed (at .check-sent .result) (at .check-sent .ensures) (c .before .before .if1 .left)
-    (c .test .result) (c .test .ensures ∙ fields-tested packed (at .check-sent .kept .1 .1 .0 ∙ start .pre .1))
+    c .test .ensures ∙ fields-tested packed (at .check-sent .kept .1 .1 .0 ∙ start .pre .1)
+    ∙ data-left aPatch (start .args .sent .now) (start .args .sum) packed (at .check-sent .result) (at .check-sent .ensures) (c .before .before .if1 .left)
 
 pub check-patch-spec : {M : Type 1} → statement M
 check-patch-spec =

@@ -29,8 +29,8 @@ returns-2 c =
     let a = start .args in
     let room = at .check-data .last .1 .1 .0 in
     let fits : length room ≡ sizeOf (a .packed) = at .check-data .kept .1 .1 .0 ∙ start .pre .1 in
-    data-left (a .packed) _ _ room (at .check-data .result) (checked at) (c .before .before .if1 .left)
-    (c .test-packed .result) (rw (eq-eqb (length room) (sizeOf (a .packed)) fits) at (c .test-packed .ensures))
+    (rw (eq-eqb (length room) (sizeOf (a .packed)) fits) at (c .test-packed .ensures))
+    ∙ data-left (a .packed) _ _ room (at .check-data .result) (checked at) (c .before .before .if1 .left)
 
 pub check-room-spec : {M : Type 1} → statement M
 check-room-spec =
