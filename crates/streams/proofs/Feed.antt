@@ -69,11 +69,17 @@ module _ (judge : List ℕ → Verdict) where
         → taken judge p (inside f c k) t ≡ taking n outside (some (report f (p + n) (refused (outcome 3 0)) noise))
     taken-broken x r e m = rw (taken-body t p f c k, e) (by-end (ending x (behind-body t x r e)))
       where
-        by-end : Ending x
-            → past n (taken judge (p + n) (inside f whole noise) (x ∷ r)) ≡ taking n outside (some (report f (p + n) (refused (outcome 3 0)) noise))
+        broken : ℕ → Taken
+        broken m = taking m outside (some (report f (p + n) (refused (outcome 3 0)) noise))
+
+        -- the byte that interrupts is not among those taken
+        up-to : past n (broken 0) ≡ broken n
+        up-to = rw (add-zero n)
+
+        by-end : Ending x → past n (taken judge (p + n) (inside f whole noise) (x ∷ r)) ≡ broken n
         by-end (closing q) = absurd (m q)
-        by-end (starting q) = rw (kind-is exclusive x q, add-zero n)
-        by-end (breaking q) = rw (q, add-zero n)
+        by-end (starting q) = rw (kind-is exclusive x q) up-to
+        by-end (breaking q) = rw q up-to
 
   -- No more bytes are taken than there are.
   own-within : (k : ByteKind) (n : ℕ) → ownByte k ≤ suc n
