@@ -36,10 +36,10 @@ enum matrix_answer {
     MATRIX_INTERRUPTED = 3,   /* another status byte stands inside the message */
     MATRIX_OTHER_MAKER = 4,   /* the first byte after F0H is not 10H */
     MATRIX_OTHER_DEVICE = 5,  /* the next is not 06H */
-    MATRIX_OTHER_OPCODE = 6,  /* the opcode is not among the five */
-    MATRIX_WRONG_LENGTH = 7,  /* of a message, or of a lent patch, bank, master or name */
-    MATRIX_NOT_ALLOWED = 8,   /* patch number, version, zero of 0DH, parameter, bus, name character;
-                                 a value or amount byte above 127 */
+    MATRIX_OTHER_OPCODE = 6,  /* the opcode is not among the six */
+    MATRIX_WRONG_LENGTH = 7,  /* of a message, or of a lent patch, split, bank, master or name */
+    MATRIX_NOT_ALLOWED = 8,   /* patch number, split number, version, zero of 0DH, parameter, bus,
+                                 name character; a value or amount byte above 127 */
     MATRIX_WIDE_DATA = 9,     /* a data byte above 15; detail: the first one's index in the data */
     MATRIX_WRONG_SUM = 10,    /* the sum byte differs from the computed sum */
     MATRIX_OUT_OF_RANGE = 11, /* a field out of range; detail: the lowest such byte place; value: what
@@ -54,6 +54,7 @@ enum matrix_answer {
 /* The opcodes: the detail of a message that is read with answer 0. */
 enum matrix_opcode {
     MATRIX_OPCODE_PATCH = 0x01,      /* single patch */
+    MATRIX_OPCODE_SPLIT = 0x02,      /* split of a Matrix-6R */
     MATRIX_OPCODE_MASTER = 0x03,     /* master parameters */
     MATRIX_OPCODE_EDIT = 0x06,       /* remote edit */
     MATRIX_OPCODE_BUS_EDIT = 0x0B,   /* matrix modulation edit */
@@ -62,10 +63,12 @@ enum matrix_opcode {
 
 /* Lengths: of what is lent, and of what is written. */
 #define MATRIX_PATCH_BYTES 134
+#define MATRIX_SPLIT_BYTES 18
 #define MATRIX_MASTER_BYTES 172 /* the most that matrix_read puts into its buffer */
 #define MATRIX_NAME_BYTES 8
 #define MATRIX_BANK_PATCHES 100
 #define MATRIX_PATCH_MESSAGE 275 /* of a single patch, and of one to the edit buffer */
+#define MATRIX_SPLIT_MESSAGE 43
 #define MATRIX_MASTER_MESSAGE 351
 #define MATRIX_EDIT_MESSAGE 7
 #define MATRIX_BUS_EDIT_MESSAGE 9
@@ -87,8 +90,9 @@ enum matrix_opcode {
 
 /* What a call came to. With answer 11 the value is that of the field out of range, for an edit the one
  * that it would store; with every other answer it is 0, which it may be with 11 too: ask the answer. It
- * has its sign where the field has one: byte 19, bytes 86 to 103, the amounts of the buses. Any other
- * field shows its byte as it stands: an edit of parameter 0 with 40H would store C0H and shows 192. */
+ * has its sign where the field has one: in a patch byte 19, bytes 86 to 103 and the amounts of the
+ * buses, in a split bytes 11, 14 and 16. Any other field shows its byte as it stands: an edit of
+ * parameter 0 with 40H would store C0H and shows 192. */
 typedef struct matrix_outcome {
     uint8_t answer; /* an enum matrix_answer */
     int16_t value;
@@ -103,9 +107,9 @@ typedef struct matrix_report {
     size_t noise; /* how many bytes from start to end are real time, F8H to FFH; 0 with answer 1 */
 } matrix_report;
 
-/* The same, with four bytes that come with the message, as received: a patch's number, a remote
- * edit's parameter and value, a modulation edit's bus, source, amount and destination; zero where the
- * message has none and with every answer but 0. */
+/* The same, with four bytes that come with the message, as received: a patch's or a split's number, a
+ * remote edit's parameter and value, a modulation edit's bus, source, amount and destination; zero
+ * where the message has none and with every answer but 0. */
 typedef struct matrix_reading {
     matrix_report report;
     uint8_t bytes[4];
@@ -182,8 +186,8 @@ matrix_report matrix_walk(const uint8_t *s, size_t s_len, size_t place);
 /* Reads the record of the first message of the input `s` that starts at `place` or later.
  * Answers: as matrix_walk, then 13 where the buffer is shorter than the packed bytes. Start, end and
  * noise are those of matrix_walk, with 13 too.
- * Written: a dump's packed bytes, 134 or 172, at the start of the buffer with answer 0. An edit needs
- * no buffer. The rest of the buffer is kept, all of it with every other answer. */
+ * Written: a dump's packed bytes, 134, 18 or 172, at the start of the buffer with answer 0. An edit
+ * needs no buffer. The rest of the buffer is kept, all of it with every other answer. */
 matrix_reading matrix_read(const uint8_t *s, size_t s_len, size_t place,
                            uint8_t *buffer, size_t buffer_len);
 
@@ -218,9 +222,9 @@ matrix_fed matrix_cable_feed(matrix_cable *cable, const uint8_t *input, size_t i
  * Written: the reader, which is kept where the end was declared before. */
 matrix_fed matrix_cable_end(matrix_cable *cable);
 
-/* The packed bytes, 134 or 172, of the dump that the last call on this reader told of with answer 0;
- * none, with length 0, where it told of no such dump. They stand in the reader until the next call on
- * it, an empty feed too; one that answers 21 leaves them. */
+/* The packed bytes, 134, 18 or 172, of the dump that the last call on this reader told of with answer
+ * 0; none, with length 0, where it told of no such dump. They stand in the reader until the next call
+ * on it, an empty feed too; one that answers 21 leaves them. */
 static inline matrix_packed matrix_cable_packed(const matrix_cable *cable)
 {
     matrix_packed packed;
@@ -232,6 +236,10 @@ static inline matrix_packed matrix_cable_packed(const matrix_cable *cable)
 /* Tests a patch.
  * Answers: 7, 11, 12; 0. No byte is written. */
 matrix_outcome matrix_test_patch(const uint8_t *p, size_t p_len);
+
+/* Tests a split, whose bytes enum matrix_split_place names.
+ * Answers: 7, 11; 0. No byte is written. */
+matrix_outcome matrix_test_split(const uint8_t *p, size_t p_len);
 
 /* The byte place of a parameter, 8 to 103, or MATRIX_NONE. */
 uint8_t matrix_place_of(uint8_t parameter);
@@ -278,6 +286,12 @@ matrix_outcome matrix_apply_bus_edit(uint8_t *p, size_t p_len,
  * Answers: 7, 8, 11, 12, 13; 0 with detail 275.
  * Written: the first 275 bytes of the output with answer 0. */
 matrix_outcome matrix_write_patch(uint8_t number, const uint8_t *p, size_t p_len,
+                                  uint8_t *out, size_t out_len);
+
+/* Writes a split as a message (02H) with its number, 0 to 49.
+ * Answers: 7, 8, 11, 13; 0 with detail 43.
+ * Written: the first 43 bytes of the output with answer 0. */
+matrix_outcome matrix_write_split(uint8_t number, const uint8_t *p, size_t p_len,
                                   uint8_t *out, size_t out_len);
 
 /* Writes a patch as a message to the edit buffer (0DH).
@@ -445,6 +459,27 @@ enum matrix_parameter {
     MATRIX_LFO_2_SPEED_BY_KEYBOARD = 91      /* LFO 2 Speed by Keyboard Amount */
 };
 
+/* The byte places of a split, named as the maker's listing names them. The listing's split parameters 0
+ * to 7 are the bytes from MATRIX_SPLIT_LEFT_LIMIT on. A field has the range of its bits: six for a
+ * character and for a byte that is not used, seven for a patch number and a limit. Signed are the
+ * transpositions and the balance, -32 to 31, in eight bits. A character c of the name, 32 to 95, is
+ * stored as `c & 0x3F`, as in a patch's. A voice configuration names the voices of the lower patch and
+ * those of the upper. */
+enum matrix_split_place {
+    MATRIX_SPLIT_NAME = 0,             /* Split Name: six bytes */
+    MATRIX_SPLIT_NOT_USED = 6,         /* Not Used: two bytes */
+    MATRIX_SPLIT_LOWER_PATCH = 8,      /* Lower Patch Number */
+    MATRIX_SPLIT_UPPER_PATCH = 9,      /* Upper Patch Number */
+    MATRIX_SPLIT_LEFT_LIMIT = 10,      /* Left Zone Limit */
+    MATRIX_SPLIT_LEFT_TRANSPOSE = 11,  /* Left Zone Transpose */
+    MATRIX_SPLIT_LEFT_MIDI_OUT = 12,   /* Left Zone MIDI Out Enable: 0 or 1 */
+    MATRIX_SPLIT_RIGHT_LIMIT = 13,     /* Right Zone Limit */
+    MATRIX_SPLIT_RIGHT_TRANSPOSE = 14, /* Right Zone Transpose */
+    MATRIX_SPLIT_RIGHT_MIDI_OUT = 15,  /* Right Zone MIDI Out Enable: 0 or 1 */
+    MATRIX_SPLIT_BALANCE = 16,         /* Left/Right Balance: -31 left zone only, 31 right zone only */
+    MATRIX_SPLIT_VOICES = 17           /* Voice Configuration: 0 is 2/4, 1 is 4/2, 2 is 6/0, 3 is 0/6 */
+};
+
 /* From here on the names above are those of the functions below, by which the pointer of an empty
  * slice may be NULL: the library itself is always given an address. */
 
@@ -501,6 +536,12 @@ static inline matrix_outcome matrix_test_patch_(const uint8_t *p, size_t p_len)
 }
 #define matrix_test_patch matrix_test_patch_
 
+static inline matrix_outcome matrix_test_split_(const uint8_t *p, size_t p_len)
+{
+    return matrix_test_split(matrix_input_(p, p_len), p_len);
+}
+#define matrix_test_split matrix_test_split_
+
 static inline matrix_held matrix_value_of_(const uint8_t *p, size_t p_len, uint8_t parameter)
 {
     return matrix_value_of(matrix_input_(p, p_len), p_len, parameter);
@@ -543,6 +584,14 @@ static inline matrix_outcome matrix_write_patch_(uint8_t number, const uint8_t *
                               matrix_output_(out, out_len), out_len);
 }
 #define matrix_write_patch matrix_write_patch_
+
+static inline matrix_outcome matrix_write_split_(uint8_t number, const uint8_t *p, size_t p_len,
+                                                 uint8_t *out, size_t out_len)
+{
+    return matrix_write_split(number, matrix_input_(p, p_len), p_len,
+                              matrix_output_(out, out_len), out_len);
+}
+#define matrix_write_split matrix_write_split_
 
 static inline matrix_outcome matrix_write_edit_buffer_(const uint8_t *p, size_t p_len,
                                                        uint8_t *out, size_t out_len)

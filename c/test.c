@@ -448,6 +448,209 @@ static void test_writing(void)
     HOLDS(out[349] == (172 * 0xFF) % 128 && out[350] == 0xF7 && out[351] == FILL_BYTE);
 }
 
+/* The range of each byte of a split, by its bits. */
+static const int16_t split_ranges[MATRIX_SPLIT_BYTES][2] = {
+    {0, 63}, {0, 63}, {0, 63}, {0, 63}, {0, 63}, {0, 63}, /* the name */
+    {0, 63}, {0, 63},                                     /* not used */
+    {0, 127}, {0, 127},                                   /* lower and upper patch */
+    {0, 127}, {-32, 31}, {0, 1},                          /* left zone */
+    {0, 127}, {-32, 31}, {0, 1},                          /* right zone */
+    {-32, 31}, {0, 3}};                                   /* balance, voices */
+
+/* A split with something in every field that is used. */
+static void make_split(uint8_t p[MATRIX_SPLIT_BYTES])
+{
+    static const uint8_t name[] = {2, 1, 19, 19, 43, 49};
+
+    memset(p, 0, MATRIX_SPLIT_BYTES);
+    memcpy(p + MATRIX_SPLIT_NAME, name, sizeof name);
+    p[MATRIX_SPLIT_LOWER_PATCH] = 99;
+    p[MATRIX_SPLIT_UPPER_PATCH] = 127;
+    p[MATRIX_SPLIT_LEFT_LIMIT] = 59;
+    p[MATRIX_SPLIT_LEFT_TRANSPOSE] = -32 & 0xFF;
+    p[MATRIX_SPLIT_LEFT_MIDI_OUT] = 1;
+    p[MATRIX_SPLIT_RIGHT_LIMIT] = 60;
+    p[MATRIX_SPLIT_RIGHT_TRANSPOSE] = 31;
+    p[MATRIX_SPLIT_RIGHT_MIDI_OUT] = 1;
+    p[MATRIX_SPLIT_BALANCE] = -31 & 0xFF;
+    p[MATRIX_SPLIT_VOICES] = 3;
+}
+
+/* The dump of any eighteen bytes, laid out by hand. */
+static void make_split_dump(uint8_t dump[MATRIX_SPLIT_MESSAGE], uint8_t number,
+                            const uint8_t p[MATRIX_SPLIT_BYTES])
+{
+    static const uint8_t head[] = {0xF0, 0x10, 0x06, 0x02};
+    unsigned sum = 0;
+
+    memcpy(dump, head, sizeof head);
+    dump[4] = number;
+    for (size_t i = 0; i < MATRIX_SPLIT_BYTES; i++) {
+        dump[5 + 2 * i] = p[i] % 16;
+        dump[6 + 2 * i] = p[i] / 16;
+        sum += p[i];
+    }
+    dump[41] = (uint8_t)(sum % 128);
+    dump[42] = 0xF7;
+}
+
+static void test_splits(void)
+{
+    uint8_t p[MATRIX_SPLIT_BYTES], kept[MATRIX_SPLIT_BYTES], buffer[MATRIX_SPLIT_BYTES + 1];
+    uint8_t dump[MATRIX_SPLIT_MESSAGE], out[MATRIX_SPLIT_MESSAGE + 1];
+    static const uint8_t zeros[MATRIX_SPLIT_BYTES] = {0};
+
+    make_split(p);
+    make_split(kept);
+    HOLDS(done(matrix_test_split(p, sizeof p), 0));
+    HOLDS(done(matrix_test_split(zeros, sizeof zeros), 0));
+    for (unsigned number = 0; number < 50; number++) {
+        make_split_dump(dump, (uint8_t)number, p);
+        memset(out, FILL_BYTE, sizeof out);
+        HOLDS(done(matrix_write_split((uint8_t)number, p, sizeof p, out, sizeof out), 43));
+        HOLDS(memcmp(out, dump, sizeof dump) == 0 && out[43] == FILL_BYTE);
+        HOLDS(says(matrix_walk(out, 43, 0), 0, 43, MATRIX_DONE, MATRIX_OPCODE_SPLIT));
+        memset(buffer, FILL_BYTE, sizeof buffer);
+        matrix_reading r = matrix_read(out, 43, 0, buffer, sizeof p - 1);
+        HOLDS(says(r.report, 0, 43, MATRIX_NO_ROOM, 0) && all_are(r.bytes, 0, 4, 0));
+        HOLDS(all_are(buffer, 0, sizeof buffer, FILL_BYTE));
+        r = matrix_read(out, 43, 0, buffer, sizeof buffer);
+        HOLDS(says(r.report, 0, 43, MATRIX_DONE, MATRIX_OPCODE_SPLIT));
+        HOLDS(r.bytes[0] == number && all_are(r.bytes, 1, 4, 0));
+        HOLDS(memcmp(buffer, p, sizeof p) == 0 && buffer[sizeof p] == FILL_BYTE);
+    }
+    memset(out, FILL_BYTE, sizeof out);
+    HOLDS(done(matrix_write_split(0, zeros, sizeof zeros, out, 43), 43));
+    HOLDS(memcmp(out, "\xF0\x10\x06\x02\x00", 5) == 0 && all_are(out, 5, 42, 0));
+    HOLDS(out[42] == 0xF7 && out[43] == FILL_BYTE);
+    HOLDS(memcmp(p, kept, sizeof p) == 0);
+}
+
+/* The first refusal is given: 7, 8, 11, 13. */
+static void test_refused_splits(void)
+{
+    uint8_t p[MATRIX_SPLIT_BYTES + 1] = {0}, out[MATRIX_SPLIT_MESSAGE];
+    const size_t whole = MATRIX_SPLIT_BYTES;
+
+    make_split(p);
+    memset(out, FILL_BYTE, sizeof out);
+    for (size_t room = 0; room < sizeof out; room++)
+        HOLDS(gave(matrix_write_split(49, p, whole, out, room), MATRIX_NO_ROOM, 0));
+    p[MATRIX_SPLIT_LEFT_TRANSPOSE] = 0xDF;
+    p[MATRIX_SPLIT_VOICES] = 4;
+    HOLDS(found(matrix_write_split(49, p, whole, out, 42), 11, -33));
+    for (unsigned number = 50; number < 256; number++)
+        HOLDS(gave(matrix_write_split((uint8_t)number, p, whole, out, 42), MATRIX_NOT_ALLOWED, 0));
+    for (size_t length = 0; length <= whole + 1; length++) {
+        if (length == whole)
+            continue;
+        HOLDS(gave(matrix_write_split(50, p, length, out, 42), MATRIX_WRONG_LENGTH, 0));
+        HOLDS(gave(matrix_test_split(p, length), MATRIX_WRONG_LENGTH, 0));
+    }
+    HOLDS(all_are(out, 0, sizeof out, FILL_BYTE));
+}
+
+/* All that tests a split tells the place and the value that this byte has there. */
+static void find_in_split(size_t place, uint8_t byte, int value)
+{
+    uint8_t p[MATRIX_SPLIT_BYTES], dump[MATRIX_SPLIT_MESSAGE], out[MATRIX_SPLIT_MESSAGE];
+    size_t room[MATRIX_REPORT_NUMBERS];
+
+    make_split(p);
+    p[place] = byte;
+    make_split_dump(dump, 0, p);
+    memset(out, FILL_BYTE, sizeof out);
+    HOLDS(found(matrix_test_split(p, sizeof p), place, value));
+    HOLDS(found(matrix_write_split(0, p, sizeof p, out, sizeof out), place, value));
+    matrix_report report = matrix_walk(dump, sizeof dump, 0);
+    HOLDS(spans(report, 0, sizeof dump) && found(report.outcome, place, value));
+    matrix_reading r = matrix_read(dump, sizeof dump, 0, out, sizeof out);
+    HOLDS(spans(r.report, 0, sizeof dump) && found(r.report.outcome, place, value));
+    HOLDS(all_are(r.bytes, 0, 4, 0) && all_are(out, 0, sizeof out, FILL_BYTE));
+    HOLDS(matrix_reports(dump, sizeof dump, 0, room, MATRIX_REPORT_NUMBERS).count == 1);
+    HOLDS(room[4] == (size_t)value);
+    matrix_cable cable = matrix_cable_fresh();
+    matrix_fed fed = matrix_cable_feed(&cable, dump, sizeof dump);
+    HOLDS(fed.ended && found(fed.reading.report.outcome, place, value));
+    HOLDS(p[place] == byte && matrix_cable_packed(&cable).length == 0);
+    if (place != MATRIX_SPLIT_VOICES) {
+        p[MATRIX_SPLIT_VOICES] = 0xFF; /* the lower place is told */
+        HOLDS(found(matrix_test_split(p, sizeof p), place, value));
+    }
+}
+
+/* Every byte at every place. */
+static void test_found_in_splits(void)
+{
+    uint8_t p[MATRIX_SPLIT_BYTES];
+
+    for (size_t place = 0; place < MATRIX_SPLIT_BYTES; place++) {
+        const int16_t least = split_ranges[place][0], greatest = split_ranges[place][1];
+        for (int byte = 0; byte < 256; byte++) {
+            const int value = least < 0 && byte >= 128 ? byte - 256 : byte;
+            if (value < least || value > greatest) {
+                find_in_split(place, (uint8_t)byte, value);
+                continue;
+            }
+            make_split(p);
+            p[place] = (uint8_t)byte;
+            HOLDS(done(matrix_test_split(p, sizeof p), 0));
+        }
+    }
+    find_in_split(MATRIX_SPLIT_BALANCE, 0x80, -128);
+    find_in_split(MATRIX_SPLIT_BALANCE, 0xDF, -33);
+    find_in_split(MATRIX_SPLIT_BALANCE, 0x20, 32);
+    find_in_split(MATRIX_SPLIT_UPPER_PATCH, 0xFF, 255);
+}
+
+/* Dumps of another length, the dummies of a Matrix-1000 with 41 bytes too, or damaged on the way. */
+static void test_damaged_splits(void)
+{
+    uint8_t p[MATRIX_SPLIT_BYTES], dump[MATRIX_SPLIT_MESSAGE], buffer[MATRIX_SPLIT_BYTES];
+    uint8_t sent[2 * MATRIX_SPLIT_MESSAGE];
+
+    memset(buffer, FILL_BYTE, sizeof buffer);
+    for (size_t length = 5; length <= sizeof sent; length++) {
+        memset(sent, 0, sizeof sent);
+        memcpy(sent, "\xF0\x10\x06\x02", 4);
+        sent[length - 1] = 0xF7;
+        matrix_report report = matrix_walk(sent, length, 0);
+        if (length == MATRIX_SPLIT_MESSAGE) {
+            HOLDS(says(report, 0, length, MATRIX_DONE, MATRIX_OPCODE_SPLIT));
+            continue;
+        }
+        HOLDS(says(report, 0, length, MATRIX_WRONG_LENGTH, 0));
+        report = matrix_read(sent, length, 0, buffer, sizeof buffer).report;
+        HOLDS(says(report, 0, length, MATRIX_WRONG_LENGTH, 0));
+    }
+    make_split(p);
+    make_split_dump(dump, 50, p);
+    matrix_reading r = matrix_read(dump, sizeof dump, 0, buffer, sizeof buffer);
+    HOLDS(says(r.report, 0, sizeof dump, MATRIX_NOT_ALLOWED, 0) && all_are(r.bytes, 0, 4, 0));
+    for (size_t i = 0; i < 36; i++) {
+        make_split_dump(dump, 49, p);
+        dump[5 + i] |= 0x10;
+        r = matrix_read(dump, sizeof dump, 0, buffer, sizeof buffer);
+        HOLDS(says(r.report, 0, sizeof dump, MATRIX_WIDE_DATA, i));
+    }
+    make_split_dump(dump, 49, p);
+    dump[41] ^= 0x40;
+    r = matrix_read(dump, sizeof dump, 0, buffer, sizeof buffer);
+    HOLDS(says(r.report, 0, sizeof dump, MATRIX_WRONG_SUM, 0) && all_are(r.bytes, 0, 4, 0));
+    HOLDS(all_are(buffer, 0, sizeof buffer, FILL_BYTE));
+
+    /* Active Sensing behind every byte. */
+    make_split_dump(dump, 49, p);
+    for (size_t i = 0; i < sizeof dump; i++) {
+        sent[2 * i] = dump[i];
+        sent[2 * i + 1] = 0xFE;
+    }
+    r = matrix_read(sent, sizeof sent, 0, buffer, sizeof buffer);
+    HOLDS(noisy(r.report, 0, sizeof sent - 1, sizeof dump - 1));
+    HOLDS(done(r.report.outcome, MATRIX_OPCODE_SPLIT) && r.bytes[0] == 49);
+    HOLDS(memcmp(buffer, p, sizeof p) == 0);
+}
+
 static void test_banks(void)
 {
     static uint8_t patches[(MATRIX_BANK_PATCHES + 1) * MATRIX_PATCH_BYTES];
@@ -732,6 +935,8 @@ static size_t packed_with(matrix_outcome outcome)
     case MATRIX_OPCODE_PATCH:
     case MATRIX_OPCODE_EDIT_BUFFER:
         return MATRIX_PATCH_BYTES;
+    case MATRIX_OPCODE_SPLIT:
+        return MATRIX_SPLIT_BYTES;
     case MATRIX_OPCODE_MASTER:
         return MATRIX_MASTER_BYTES;
     default:
@@ -883,9 +1088,11 @@ static void test_cable_stream(void)
     static uint8_t s[4096];
     uint8_t p[MATRIX_PATCH_BYTES], dump[MATRIX_PATCH_MESSAGE];
     uint8_t master[MATRIX_MASTER_BYTES], message[MATRIX_MASTER_MESSAGE];
+    uint8_t split[MATRIX_SPLIT_BYTES], split_dump[MATRIX_SPLIT_MESSAGE];
     size_t at = 0;
 
     make_p(p);
+    make_split(split);
     for (size_t i = 0; i < sizeof master; i++)
         master[i] = (uint8_t)i;
     HOLDS(done(matrix_write_patch(42, p, sizeof p, dump, sizeof dump), sizeof dump));
@@ -897,7 +1104,16 @@ static void test_cable_stream(void)
     at = put(s, at, dump + 100, sizeof dump - 100);
     at = put(s, at, message, sizeof message);
     at = put(s, at, planned, sizeof planned);
-    at = put(s, at, "\xF0\xF0\xF7\xFE\xF0\x10\x02\xF7\xF0\x10\x06\x02\xF7", 13);
+    at = put(s, at, "\xF0\xF0\xF7\xFE\xF0\x10\x02\xF7\xF0\x10\x06\x00\xF7", 13);
+    make_split_dump(split_dump, 49, split);
+    at = put(s, at, split_dump, 40);
+    at = put(s, at, "\xF7\xF8", 2);
+    at = put(s, at, split_dump, sizeof split_dump);
+    make_split_dump(split_dump, 50, split);
+    at = put(s, at, split_dump, sizeof split_dump);
+    split[MATRIX_SPLIT_BALANCE] = 0xDF;
+    make_split_dump(split_dump, 0, split);
+    at = put(s, at, split_dump, sizeof split_dump);
     at = put(s, at, dump, 200);
     at = put(s, at, "\x90\x40\x40", 3);
     at = put(s, at, message, sizeof message - 1);
@@ -921,6 +1137,7 @@ static void test_cable_packed(void)
 {
     uint8_t p[MATRIX_PATCH_BYTES], dump[MATRIX_PATCH_MESSAGE];
     uint8_t master[MATRIX_MASTER_BYTES], message[MATRIX_MASTER_MESSAGE];
+    uint8_t split[MATRIX_SPLIT_BYTES], split_dump[MATRIX_SPLIT_MESSAGE];
     matrix_cable cable = matrix_cable_fresh();
 
     make_p(p);
@@ -944,6 +1161,14 @@ static void test_cable_packed(void)
     HOLDS(told(matrix_cable_feed(&copy, message, sizeof message), sizeof message,
                275, 626, MATRIX_DONE, MATRIX_OPCODE_MASTER));
     HOLDS(packs(&copy, master, sizeof master));
+    cable = copy;
+    make_split(split);
+    make_split_dump(split_dump, 49, split);
+    fed = matrix_cable_feed(&cable, split_dump, sizeof split_dump);
+    HOLDS(told(fed, 43, 626, 669, MATRIX_DONE, MATRIX_OPCODE_SPLIT));
+    HOLDS(fed.reading.bytes[0] == 49 && all_are(fed.reading.bytes, 1, 4, 0));
+    HOLDS(packs(&cable, split, sizeof split));
+    HOLDS(all_are(cable.bytes, sizeof split, sizeof cable.bytes, 0));
     cable = copy;
     HOLDS(took_all(matrix_cable_feed(&cable, dump, 1), 1) && packs_none(&cable) && cable.inside);
     cable = copy;
@@ -1008,10 +1233,11 @@ static void test_cable_most(void)
 /* An empty slice at NULL is an empty slice. */
 static void test_null(void)
 {
-    uint8_t p[MATRIX_PATCH_BYTES], one[1] = {FILL_BYTE};
+    uint8_t p[MATRIX_PATCH_BYTES], split[MATRIX_SPLIT_BYTES], one[1] = {FILL_BYTE};
     matrix_cable cable = matrix_cable_fresh();
 
     make_p(p);
+    make_split(split);
     HOLDS(says(matrix_walk(NULL, 0, 0), 0, 0, MATRIX_NO_MESSAGE, 0));
     HOLDS(says(matrix_walk(NULL, 0, 5), 0, 0, MATRIX_NO_MESSAGE, 0));
     HOLDS(says(matrix_read(NULL, 0, 0, NULL, 0).report, 0, 0, MATRIX_NO_MESSAGE, 0));
@@ -1021,6 +1247,7 @@ static void test_null(void)
     HOLDS(matrix_reports(listed, sizeof listed, 2, NULL, 0).next == 2);
     HOLDS(took_all(matrix_cable_feed(&cable, NULL, 0), 0) && cable.taken == 0);
     HOLDS(gave(matrix_test_patch(NULL, 0), MATRIX_WRONG_LENGTH, 0));
+    HOLDS(gave(matrix_test_split(NULL, 0), MATRIX_WRONG_LENGTH, 0));
     HOLDS(gave(matrix_value_of(NULL, 0, 1).outcome, MATRIX_WRONG_LENGTH, 0));
     HOLDS(gave(matrix_value_of(NULL, 0, 39).outcome, MATRIX_NOT_ALLOWED, 0));
     HOLDS(gave(matrix_set_name(NULL, 0, NULL, 0), MATRIX_WRONG_LENGTH, 0));
@@ -1031,6 +1258,8 @@ static void test_null(void)
     HOLDS(gave(matrix_apply_bus_edit(NULL, 0, 0, 0, 0, 0), MATRIX_WRONG_LENGTH, 0));
     HOLDS(gave(matrix_write_patch(0, NULL, 0, one, 1), MATRIX_WRONG_LENGTH, 0));
     HOLDS(gave(matrix_write_patch(0, p, sizeof p, NULL, 0), MATRIX_NO_ROOM, 0));
+    HOLDS(gave(matrix_write_split(0, NULL, 0, one, 1), MATRIX_WRONG_LENGTH, 0));
+    HOLDS(gave(matrix_write_split(0, split, sizeof split, NULL, 0), MATRIX_NO_ROOM, 0));
     HOLDS(gave(matrix_write_edit_buffer(NULL, 0, NULL, 0), MATRIX_WRONG_LENGTH, 0));
     HOLDS(gave(matrix_write_edit_buffer(p, sizeof p, NULL, 0), MATRIX_NO_ROOM, 0));
     HOLDS(gave(matrix_write_master(NULL, 0, NULL, 0), MATRIX_WRONG_LENGTH, 0));
@@ -1063,6 +1292,10 @@ int main(void)
     test_noise();
     test_values();
     test_writing();
+    test_splits();
+    test_refused_splits();
+    test_found_in_splits();
+    test_damaged_splits();
     test_banks();
     test_plans();
     test_longest_plan();

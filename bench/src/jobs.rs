@@ -7,7 +7,9 @@ use compare::ffi::{self, A_CALL};
 use compare::word;
 use reference::streams::plans::{self, Pair};
 use reference::streams::{inputs, Random};
-use reference::{parameter_of, CableReader, Fed, BANK_PATCHES, LONGEST_PLAN, PATCH_LENGTH};
+use reference::{
+    parameter_of, CableReader, Fed, BANK_PATCHES, LONGEST_PLAN, PATCH_LENGTH, SPLIT_LENGTH,
+};
 
 /// A job in both ways.
 pub struct Job {
@@ -24,14 +26,19 @@ const SEED: u64 = 1000;
 /// The sizes of the streams. Random bytes are long enough that no processor learns its branches by heart; F0H
 /// only has far more reports to a byte.
 const BANKS: usize = 1 << 16;
+const SPLITS: usize = 1 << 16;
 const NOISE: usize = 1 << 20;
 const STARTS: usize = 1 << 14;
 /// How many patches are tested and edits are applied in a pass.
 const MANY: usize = 100;
+/// How many splits a unit has: as many are tested and written in a pass.
+const UNIT_SPLITS: usize = 50;
+/// The length of a split dump.
+const SPLIT_DUMP: usize = 43;
 /// How many edits make a patch another in every parameter and every bus.
 const PARTS: usize = 96 + 10;
 
-pub fn all() -> [Job; 23] {
+pub fn all() -> [Job; 26] {
     let mut random = Random::new(SEED);
     let bank = good_patches(&mut random, BANK_PATCHES);
     let banks: Vec<u8> = bank_dumps(&bank).into_iter().cycle().take(BANKS).collect();
@@ -46,13 +53,20 @@ pub fn all() -> [Job; 23] {
         .collect();
     let patch = inputs::good_patch(&mut random);
     let apart = plans::all_apart(&mut random);
+    let splits = good_splits(&mut random, UNIT_SPLITS);
+    let split_dumps: Vec<u8> = split_dumps(&splits)
+        .into_iter()
+        .cycle()
+        .take(SPLITS)
+        .collect();
     [
         reports("reports-banks", banks.clone()),
         reports("reports-sensing-16", seldom),
         reports("reports-sensing-3", often),
         reports("reports-noise", noise.clone()),
         reports("reports-starts", starts),
-        read(banks.clone()),
+        read("read-banks", banks.clone(), PATCH_LENGTH),
+        read("read-splits", split_dumps, SPLIT_LENGTH),
         cable("cable-dumps-1", banks.clone(), 1, in_place),
         cable("cable-dumps-16", banks.clone(), 16, in_place),
         cable("cable-dumps-256", banks.clone(), 256, in_place),
@@ -64,8 +78,10 @@ pub fn all() -> [Job; 23] {
         cable("cable-by-value-4096", banks, 4096, by_value),
         cable("cable-by-value-noise-16", noise, 16, by_value),
         test_patch(patches),
+        test_split(splits.clone()),
         values(patch),
         write_bank(bank),
+        write_splits(splits),
         apply_edits(patch, edits),
         apply_bus_edits(patch, bus_edits),
         plan(apart.clone()),
@@ -83,6 +99,23 @@ fn bank_dumps(bank: &[u8]) -> Vec<u8> {
     let mut dumps = vec![0; 275 * BANK_PATCHES];
     let written = reference::write_bank(bank, &mut dumps);
     assert_eq!(written.answer, 0, "good patches");
+    dumps
+}
+
+fn good_splits(random: &mut Random, count: usize) -> Vec<u8> {
+    (0..count)
+        .flat_map(|_| inputs::good_split(random))
+        .collect()
+}
+
+/// Splits dumped with numbers from 0 on.
+fn split_dumps(splits: &[u8]) -> Vec<u8> {
+    let splits = splits.chunks_exact(SPLIT_LENGTH);
+    let mut dumps = vec![0; SPLIT_DUMP * splits.len()];
+    for ((number, split), dump) in (0..).zip(splits).zip(dumps.chunks_exact_mut(SPLIT_DUMP)) {
+        let written = reference::write_split(number, split, dump);
+        assert_eq!(written.answer, 0, "good splits");
+    }
     dumps
 }
 
@@ -123,12 +156,12 @@ fn reports(name: &'static str, input: Vec<u8>) -> Job {
     }
 }
 
-/// Every record of a bank stream, into one buffer.
-fn read(input: Vec<u8>) -> Job {
+/// Every record of a stream of dumps, each of so many packed bytes, into one buffer.
+fn read(name: &'static str, input: Vec<u8>, packed: usize) -> Job {
     let other = input.clone();
     let (mut buffer, mut other_buffer) = ([0; 172], [0; 172]);
     Job {
-        name: "read-banks",
+        name,
         amount: input.len(),
         unit: "MB/s",
         library: Box::new(move || {
@@ -138,7 +171,7 @@ fn read(input: Vec<u8>) -> Job {
                 let r = ffi::read(input, place, &mut buffer);
                 let outcome = r.report.outcome;
                 if outcome.answer == 1 {
-                    return add(all, usize::from(buffer[133]));
+                    return add(all, usize::from(buffer[packed - 1]));
                 }
                 black_box(&buffer);
                 let [first, ..] = r.bytes;
@@ -153,7 +186,7 @@ fn read(input: Vec<u8>) -> Job {
             loop {
                 let r = reference::read(input, place, &mut other_buffer);
                 if r.answer == 1 {
-                    return add(all, usize::from(other_buffer[133]));
+                    return add(all, usize::from(other_buffer[packed - 1]));
                 }
                 black_box(&other_buffer);
                 let [first, ..] = r.bytes;
@@ -250,6 +283,26 @@ fn test_patch(patches: Vec<u8>) -> Job {
     }
 }
 
+/// Good splits, tested one by one.
+fn test_split(splits: Vec<u8>) -> Job {
+    let other = splits.clone();
+    Job {
+        name: "test-split",
+        amount: splits.len(),
+        unit: "MB/s",
+        library: Box::new(move || {
+            let splits = black_box(splits.as_slice()).chunks_exact(SPLIT_LENGTH);
+            splits.fold(0, |all, split| add(all, library(ffi::test_split(split))))
+        }),
+        plain: Box::new(move || {
+            let splits = black_box(other.as_slice()).chunks_exact(SPLIT_LENGTH);
+            splits.fold(0, |all, split| {
+                add(all, plain(reference::test_split(split)))
+            })
+        }),
+    }
+}
+
 /// The value of every parameter in a patch, which is tested for each.
 fn values(patch: [u8; PATCH_LENGTH]) -> Job {
     let parameters: Vec<u8> = (0..=255).filter_map(parameter_of).collect();
@@ -295,6 +348,45 @@ fn write_bank(bank: Vec<u8>) -> Job {
             outcome ^ written.place ^ usize::from(other_out[273])
         }),
     }
+}
+
+/// Fifty splits, numbered from 0 on, each to its own place in one output.
+fn write_splits(splits: Vec<u8>) -> Job {
+    let other = splits.clone();
+    let mut out = vec![0; SPLIT_DUMP * UNIT_SPLITS];
+    let mut other_out = out.clone();
+    Job {
+        name: "write-split",
+        amount: out.len(),
+        unit: "MB/s",
+        library: Box::new(move || {
+            each_written(&splits, &mut out, |number, split, dump| {
+                library(ffi::write_split(number, split, dump))
+            })
+        }),
+        plain: Box::new(move || {
+            each_written(&other, &mut other_out, |number, split, dump| {
+                plain(reference::write_split(number, split, dump))
+            })
+        }),
+    }
+}
+
+/// Writes splits, each to its own place. Their sums are among what is given.
+fn each_written(
+    splits: &[u8],
+    out: &mut [u8],
+    write: impl Fn(u8, &[u8], &mut [u8]) -> usize,
+) -> usize {
+    let splits = black_box(splits).chunks_exact(SPLIT_LENGTH);
+    let dumps = black_box(out).chunks_exact_mut(SPLIT_DUMP);
+    (0..)
+        .zip(splits)
+        .zip(dumps)
+        .fold(0, |all, ((number, split), dump)| {
+            let outcome = write(number, split, dump);
+            add(all, outcome ^ usize::from(dump[SPLIT_DUMP - 2]))
+        })
 }
 
 /// Remote edits, one after the other on one patch.

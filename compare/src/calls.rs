@@ -3,7 +3,7 @@
 
 use compare::ffi::{A_CALL, EMPTY};
 use reference::streams::{self, inputs, Random};
-use reference::{reports, BANK_PATCHES, NAME_LENGTH, PATCH_LENGTH};
+use reference::{reports, BANK_PATCHES, NAME_LENGTH, PATCH_LENGTH, SPLIT_LENGTH};
 
 use crate::lent::{Call, Lent};
 
@@ -102,7 +102,7 @@ pub fn read_noisy(random: &mut Random) -> Call {
 }
 
 fn read_of(random: &mut Random, (input, place): Stream) -> Call {
-    let needed = random.pick(&[0, 134, 134, 134, 172, 172]);
+    let needed = random.pick(&[0, 18, 134, 134, 134, 172, 172]);
     let length = around(random, needed);
     Call {
         first: Lent::new(random, &input),
@@ -158,6 +158,27 @@ pub fn test_patch(random: &mut Random) -> Call {
     call
 }
 
+/// A split in `first`, and room for this many bytes in `second`.
+fn split(random: &mut Random, needed: usize) -> Call {
+    let split = inputs::split(random);
+    let length = around(random, needed);
+    Call {
+        first: Lent::new(random, &split),
+        second: Lent::filled(random, length),
+        ..call(random)
+    }
+}
+
+pub fn test_split(random: &mut Random) -> Call {
+    let mut call = split(random, 0);
+    // Half of them anything but usual: one byte anywhere replaced by any.
+    if random.one_in(2) && call.first.get().len() == SPLIT_LENGTH {
+        let place = random.below(SPLIT_LENGTH);
+        call.first.get_mut()[place] = random.byte();
+    }
+    call
+}
+
 pub fn value_of(random: &mut Random) -> Call {
     Call {
         bytes: [inputs::parameter(random), 0, 0, 0],
@@ -195,6 +216,13 @@ pub fn write_patch(random: &mut Random) -> Call {
     Call {
         bytes: [inputs::number(random), 0, 0, 0],
         ..patch(random, 275)
+    }
+}
+
+pub fn write_split(random: &mut Random) -> Call {
+    Call {
+        bytes: [inputs::split_number(random), 0, 0, 0],
+        ..split(random, 43)
     }
 }
 
@@ -334,6 +362,26 @@ pub fn every_field(random: &mut Random, number: usize) -> Call {
     Call {
         first: Lent::new(random, &patch),
         ..call(random)
+    }
+}
+
+/// A good split with the byte at one of its places replaced, by each of the 256.
+pub fn every_split_field(random: &mut Random, number: usize) -> Call {
+    let mut split = inputs::good_split(random);
+    split[number >> 8] = number as u8;
+    Call {
+        first: Lent::new(random, &split),
+        ..call(random)
+    }
+}
+
+/// A good split with each byte as its number, and just room enough for it.
+pub fn every_split_number(random: &mut Random, number: usize) -> Call {
+    let split = inputs::good_split(random);
+    Call {
+        first: Lent::new(random, &split),
+        second: Lent::filled(random, 43),
+        ..every_byte(random, number)
     }
 }
 

@@ -10,7 +10,7 @@ use reference::answers::NO_MESSAGE;
 use reference::kinds::MASTER_LENGTH;
 use reference::streams::cuts::{cable_stream_of, STREAMS};
 use reference::streams::{stream, Random, CYCLE};
-use reference::PATCH_LENGTH;
+use reference::{PATCH_LENGTH, SPLIT_LENGTH};
 
 use crate::cable::Both;
 use crate::lent::hex;
@@ -34,6 +34,7 @@ static SETS: [Set; 2] = [
         ways: at_every_place,
         met: &[
             (0, 0x01),
+            (0, 0x02),
             (0, 0x03),
             (0, 0x06),
             (0, 0x0B),
@@ -169,6 +170,7 @@ impl Message {
         };
         let size = match message.met() {
             (0, 0x01 | 0x0D) => PATCH_LENGTH,
+            (0, 0x02) => SPLIT_LENGTH,
             (0, 0x03) => MASTER_LENGTH,
             _ => 0,
         };

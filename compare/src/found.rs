@@ -1,32 +1,52 @@
 //! What is found out of range: each place of a patch, below its range and above it, in a patch that is
-//! lent, in a bank and in a dump. All else in these calls is good, so each of them is refused by 11.
+//! lent, in a bank and in a dump; and each place of a split. All else in these calls is good, so each of
+//! them is refused by 11.
 
 use compare::ffi::{A_CALL, EMPTY};
-use reference::kinds::{length, opcode, MATRIX, OBERHEIM};
+use reference::kinds::{length, opcode, LAST_SPLIT, MATRIX, OBERHEIM};
 use reference::nibbles::{sum, unpack};
 use reference::streams::{inputs, Random};
-use reference::{outside, PATCH_LENGTH};
+use reference::{outside, outside_split, CableReader, PATCH_LENGTH, SPLIT_LENGTH};
 
+use crate::cable::Deed;
+use crate::feeds;
 use crate::lent::{Call, Lent};
 
-/// Three bytes at each place.
+/// Three bytes at each place of a patch.
 pub const EVERYWHERE: usize = 3 * PATCH_LENGTH;
 
-type Patch = [u8; PATCH_LENGTH];
+/// Those at each place of 16 splits.
+pub const EVERYWHERE_IN_SPLITS: usize = 16 * IN_SPLIT;
+const IN_SPLIT: usize = 3 * SPLIT_LENGTH;
 
-/// A good patch but for one byte: the least that is out of range at its place, the greatest, or the
-/// one behind the range; any where no byte lies before the range.
-fn patch(random: &mut Random, index: usize) -> Patch {
-    let place = index / 3;
-    let outside = outside(place as u8);
+type Patch = [u8; PATCH_LENGTH];
+type Split = [u8; SPLIT_LENGTH];
+
+/// One of the bytes that are out of range at a place: the least, the greatest, or the one behind the
+/// range; any where no byte lies before the range.
+fn one(random: &mut Random, outside: &[u8], index: usize) -> u8 {
     let behind = outside.windows(2).find(|pair| pair[1] - pair[0] > 1);
-    let mut patch = inputs::good_patch(random);
-    patch[place] = match index % 3 {
+    match index % 3 {
         0 => outside[0],
         1 => outside[outside.len() - 1],
-        _ => behind.map_or_else(|| random.pick(&outside), |pair| pair[1]),
-    };
+        _ => behind.map_or_else(|| random.pick(outside), |pair| pair[1]),
+    }
+}
+
+/// A good patch but for one byte.
+fn patch(random: &mut Random, index: usize) -> Patch {
+    let place = index / 3;
+    let mut patch = inputs::good_patch(random);
+    patch[place] = one(random, &outside(place as u8), index);
     patch
+}
+
+/// A good split but for one byte.
+fn split(random: &mut Random, index: usize) -> Split {
+    let place = index % IN_SPLIT / 3;
+    let mut split = inputs::good_split(random);
+    split[place] = one(random, &outside_split(place as u8), index);
+    split
 }
 
 /// The same between two good ones.
@@ -41,12 +61,17 @@ fn three(random: &mut Random, index: usize) -> [Patch; 3] {
 /// The dump of a patch, out of range or not.
 fn dumped(random: &mut Random, patch: &Patch) -> Vec<u8> {
     let opcode = random.pick(&[opcode::SINGLE_PATCH, opcode::EDIT_BUFFER]);
-    let mut data = [0; 2 * PATCH_LENGTH];
-    unpack(patch, &mut data);
+    dump(opcode, 0, patch)
+}
+
+/// A dump of packed bytes, out of range or not.
+fn dump(opcode: u8, second: u8, packed: &[u8]) -> Vec<u8> {
+    let mut data = vec![0; 2 * packed.len()];
+    unpack(packed, &mut data);
     [
-        &[0xF0, OBERHEIM, MATRIX, opcode, 0],
+        &[0xF0, OBERHEIM, MATRIX, opcode, second],
         data.as_slice(),
-        &[sum(patch), 0xF7],
+        &[sum(packed), 0xF7],
     ]
     .concat()
 }
@@ -68,6 +93,11 @@ fn lent(random: &mut Random, bytes: &[u8]) -> Call {
 pub fn in_patch(random: &mut Random, index: usize) -> Call {
     let patch = patch(random, index);
     lent(random, &patch)
+}
+
+pub fn in_split(random: &mut Random, index: usize) -> Call {
+    let split = split(random, index);
+    lent(random, &split)
 }
 
 /// In a patch that gets a name.
@@ -95,4 +125,35 @@ pub fn in_dump(random: &mut Random, index: usize) -> Call {
         place: random.within(1..=length::SINGLE_PATCH),
         ..lent(random, &dumps)
     }
+}
+
+/// Three splits dumped, the second of them out of range.
+fn split_dumps(random: &mut Random, index: usize) -> Vec<u8> {
+    let splits = [
+        inputs::good_split(random),
+        split(random, index),
+        inputs::good_split(random),
+    ];
+    let dumps = splits.iter().flat_map(|split| {
+        let number = random.byte_within(0..=LAST_SPLIT);
+        dump(opcode::SPLIT, number, split)
+    });
+    dumps.collect()
+}
+
+/// In the second of them, from inside the first.
+pub fn in_split_dump(random: &mut Random, index: usize) -> Call {
+    let dumps = split_dumps(random, index);
+    Call {
+        place: random.within(1..=length::SPLIT),
+        ..lent(random, &dumps)
+    }
+}
+
+/// The same straight from the cable: cut anywhere, what is left fed again until all is taken.
+pub fn in_split_fed(random: &mut Random, index: usize) -> Call {
+    let dumps = split_dumps(random, index);
+    let first = random.within(1..=dumps.len());
+    let deeds = [first, dumps.len(), dumps.len(), dumps.len()].map(Deed::Feed);
+    feeds::lent(random, CableReader::new(), &dumps, deeds.to_vec())
 }

@@ -91,7 +91,7 @@ pub fn hex(bytes: &[u8]) -> String {
 /// All that a call is given.
 #[derive(Clone, PartialEq, Eq)]
 pub struct Call {
-    /// What the routine reads first: the input, patch, bank or master.
+    /// What the routine reads first: the input, patch, split, bank or master.
     pub first: Lent<u8>,
     /// What it reads or writes next: the buffer, output, name or second patch.
     pub second: Lent<u8>,
@@ -101,7 +101,7 @@ pub struct Call {
     pub room: Lent<usize>,
     /// The place to walk from.
     pub place: usize,
-    /// A patch number, or an edit's bytes.
+    /// The number of a patch or a split, or an edit's bytes.
     pub bytes: [u8; 4],
     /// A reader straight from the cable, which is fed what is read first.
     pub run: Option<Box<Run>>,

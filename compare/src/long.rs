@@ -44,7 +44,7 @@ struct Kind {
     cable: Option<usize>,
 }
 
-static KINDS: [Kind; 8] = [
+static KINDS: [Kind; 9] = [
     Kind {
         name: "F0H only",
         make: |size| vec![0xF0; size],
@@ -93,6 +93,12 @@ static KINDS: [Kind; 8] = [
         cable: None,
     },
     Kind {
+        name: "splits",
+        make: splits,
+        shorten: |_| {},
+        cable: None,
+    },
+    Kind {
         name: "random bytes",
         make: |size| {
             let mut random = Random::new(SEED);
@@ -119,6 +125,17 @@ fn banks(size: usize) -> Vec<u8> {
     let written = reference::write_bank(&patches, &mut bank);
     assert_eq!(written.answer, 0, "a hundred good patches");
     bank.into_iter().cycle().take(size).collect()
+}
+
+/// Fifty good splits numbered from 0, again and again, the last one cut.
+fn splits(size: usize) -> Vec<u8> {
+    let mut random = Random::new(SEED);
+    let mut dumps = vec![0; 43 * 50];
+    for (number, dump) in (0..).zip(dumps.chunks_exact_mut(43)) {
+        let written = reference::write_split(number, &inputs::good_split(&mut random), dump);
+        assert_eq!(written.answer, 0, "a good split");
+    }
+    dumps.into_iter().cycle().take(size).collect()
 }
 
 /// Goes through the reports of an input, giving each to the function until it says stop.

@@ -61,6 +61,12 @@ impl Routine {
     const fn finding(self, make: Every) -> Self {
         self.on_every(", out of range at every place", found::EVERYWHERE, make)
     }
+
+    /// The same at each place of a split.
+    const fn finding_in_splits(self, make: Every) -> Self {
+        let inputs = ", out of range at every place of a split";
+        self.on_every(inputs, found::EVERYWHERE_IN_SPLITS, make)
+    }
 }
 
 impl fmt::Display for Routine {
@@ -339,6 +345,14 @@ const TEST_PATCH: Routine = Routine {
     expected: |c| reference::test_patch(c.first.get()).into(),
 };
 
+const TEST_SPLIT: Routine = Routine {
+    name: "test_split",
+    inputs: "",
+    source: Source::Any(calls::test_split),
+    library: |c| ffi::test_split(c.first.get()).into(),
+    expected: |c| reference::test_split(c.first.get()).into(),
+};
+
 const VALUE_OF: Routine = Routine {
     name: "value_of",
     inputs: "",
@@ -397,6 +411,17 @@ const WRITE_PATCH: Routine = Routine {
     expected: |c| {
         let out = c.second.get_mut();
         reference::write_patch(c.bytes[0], c.first.get(), out).into()
+    },
+};
+
+const WRITE_SPLIT: Routine = Routine {
+    name: "write_split",
+    inputs: "",
+    source: Source::Any(calls::write_split),
+    library: |c| ffi::write_split(c.bytes[0], c.first.get(), c.second.get_mut()).into(),
+    expected: |c| {
+        let out = c.second.get_mut();
+        reference::write_split(c.bytes[0], c.first.get(), out).into()
     },
 };
 
@@ -470,6 +495,9 @@ const STRANGE: &str = ", records that no call leaves";
 const EXCHANGED: &str = ", every pair of neighbours exchanged";
 const REPLACED: &str = ", every pair of values for a byte's nibbles";
 
+/// What splits are called with a nibble replaced.
+const NIBBLES: &str = ", every byte for every nibble of a split";
+
 /// What the bus edits are called with each byte as bus and each as amount.
 const AMOUNTS: &str = ", every bus and amount";
 
@@ -481,24 +509,30 @@ const BUS_EDITS: &str = ", every bus, source and destination";
 /// What pairs are called that differ in one byte or in none.
 const CHANGED: &str = ", every byte at every place of either patch";
 
-pub static ROUTINES: [Routine; 71] = [
+pub static ROUTINES: [Routine; 84] = [
     WALK,
     WALK.on(NOISY, Source::Any(calls::walk_noisy)),
     WALK.on_every(SENT, 2 << 14, calls::every_edit_sent),
     WALK.finding(found::in_dump),
+    WALK.finding_in_splits(found::in_split_dump),
+    WALK.on_every(NIBBLES, slips::NIBBLES, slips::read_nibble),
     READ,
     READ.on(NOISY, Source::Any(calls::read_noisy)),
     READ.on_every(AMOUNTS, 1 << 16, calls::every_amount_sent),
     READ.on_every(SENT, 2 << 14, calls::every_edit_sent),
     READ.finding(found::in_dump),
+    READ.finding_in_splits(found::in_split_dump),
     READ.on_every(EXCHANGED, slips::EXCHANGES, slips::read_exchange),
     READ.on_every(REPLACED, slips::PAIRS, slips::read_pair),
+    READ.on_every(NIBBLES, slips::NIBBLES, slips::read_nibble),
     REPORTS,
     REPORTS.on(NOISY, Source::Any(calls::reports_noisy)),
     REPORTS.on_every(SENT, 2 << 14, calls::every_edit_sent),
     REPORTS.finding(found::in_dump),
+    REPORTS.finding_in_splits(found::in_split_dump),
     REPORTS.on_every(EXCHANGED, slips::EXCHANGES, slips::report_exchange),
     REPORTS.on_every(REPLACED, slips::PAIRS, slips::report_pair),
+    REPORTS.on_every(NIBBLES, slips::NIBBLES, slips::report_nibble),
     Routine {
         name: "cable_fresh",
         inputs: "",
@@ -515,12 +549,20 @@ pub static ROUTINES: [Routine; 71] = [
     ),
     CABLE_FEED.on(NEAR_LIMIT, Source::Any(feeds::feed_near_limit)),
     CABLE_FEED.on(STRANGE, Source::Any(feeds::feed_strange)),
+    CABLE_FEED.finding_in_splits(found::in_split_fed),
     CABLE_END,
     CABLE_END.on(NOISY, Source::Any(feeds::end_noisy)),
     CABLE_END.on(NEAR_LIMIT, Source::Any(feeds::end_near_limit)),
     CABLE_END.on(STRANGE, Source::Any(feeds::end_strange)),
     TEST_PATCH,
     TEST_PATCH.on_every(", every byte at every place", 134 * 256, calls::every_field),
+    TEST_SPLIT,
+    TEST_SPLIT.on_every(
+        ", every byte at every place",
+        18 * 256,
+        calls::every_split_field,
+    ),
+    TEST_SPLIT.finding_in_splits(found::in_split),
     Routine {
         name: "place_of",
         inputs: ", every parameter",
@@ -562,6 +604,9 @@ pub static ROUTINES: [Routine; 71] = [
     APPLY_BUS_EDIT.finding(found::in_patch),
     WRITE_PATCH,
     WRITE_PATCH.finding(found::in_patch),
+    WRITE_SPLIT,
+    WRITE_SPLIT.on_every(", every number", 256, calls::every_split_number),
+    WRITE_SPLIT.finding_in_splits(found::in_split),
     WRITE_EDIT_BUFFER,
     WRITE_EDIT_BUFFER.finding(found::in_patch),
     Routine {

@@ -1,10 +1,11 @@
 //! Slipped neighbours, every one on several dumps: a dump of a patch between two others, with two
-//! neighbouring bytes exchanged or the two nibbles of a packed byte replaced.
+//! neighbouring bytes exchanged or the two nibbles of a packed byte replaced. And every nibble of several
+//! splits replaced by every byte.
 
 use compare::ffi::{A_CALL, EMPTY};
 use reference::streams::damage::{damageable, low_nibble, Damage};
 use reference::streams::{inputs, Random};
-use reference::{write_edit_buffer, write_patch, PATCH_LENGTH};
+use reference::{write_edit_buffer, write_patch, write_split, PATCH_LENGTH, SPLIT_LENGTH};
 
 use crate::lent::{Call, Lent};
 
@@ -21,6 +22,14 @@ const NEIGHBOURS: usize = 268;
 pub const PAIRS: usize = 2 * PACKED.len() * VALUES * VALUES;
 const PACKED: [usize; 4] = [0, 76, 105, 133];
 const VALUES: usize = 0x80;
+
+/// The length of a split dump, which is where the split in the middle starts.
+const SPLIT_DUMP: usize = 43;
+
+/// Every byte in place of every nibble of eight splits, the byte that stands there too.
+pub const NIBBLES: usize = 8 * SPLIT_NIBBLES * BYTES;
+const SPLIT_NIBBLES: usize = 2 * SPLIT_LENGTH;
+const BYTES: usize = 0x100;
 
 /// A dump as it is written: for the edit buffer if its number is odd.
 fn dump(number: usize) -> Vec<u8> {
@@ -53,6 +62,38 @@ fn pair(index: usize) -> Vec<u8> {
     let rest = index / (VALUES * VALUES);
     let at = low_nibble(DUMP, PACKED[rest % PACKED.len()]);
     damaged(rest / PACKED.len(), Damage::ReplaceTwo { at, bytes })
+}
+
+/// A split as it is written.
+fn split(number: usize) -> Vec<u8> {
+    let mut random = Random::new(number as u64);
+    let split = inputs::good_split(&mut random);
+    let mut out = vec![0; SPLIT_DUMP];
+    let outcome = write_split(number as u8, &split, &mut out);
+    assert_eq!(outcome.detail, SPLIT_DUMP);
+    out
+}
+
+/// A split with a nibble replaced, between the two next.
+fn nibble(index: usize) -> Vec<u8> {
+    let number = index / (SPLIT_NIBBLES * BYTES);
+    let mut stream = [split(number + 1), split(number), split(number + 2)].concat();
+    let at = low_nibble(SPLIT_DUMP, 0) + index / BYTES % SPLIT_NIBBLES;
+    let byte = (index % BYTES) as u8;
+    Damage::Replace { at, byte }.apply(&mut stream);
+    stream
+}
+
+/// Reads the split in the middle, or walks to it.
+pub fn read_nibble(random: &mut Random, index: usize) -> Call {
+    Call {
+        place: SPLIT_DUMP,
+        ..read(random, &nibble(index))
+    }
+}
+
+pub fn report_nibble(random: &mut Random, index: usize) -> Call {
+    reports(random, &nibble(index))
 }
 
 /// Reads the dump in the middle.

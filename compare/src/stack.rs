@@ -1,7 +1,7 @@
 //! How deep the stack of each exported routine goes.
 //!
 //! A routine is called on a stack of its own that is painted before the call. After it the lowest
-//! byte that has changed tells how far below its caller the routine wrote, its return address
+//! word that has changed tells how far below its caller the routine wrote, its return address
 //! included. It is called so on the inputs that it is compared on, a reader straight from the cable call
 //! by call; those that read a stream also on each message of one as the eighth report of a call, with
 //! real time behind each byte, and the reader on each such message whole and cut. The deepest call
@@ -22,7 +22,8 @@ use crate::routines::{Source, ROUTINES};
 pub const COUNT: usize = 1_000;
 /// The size of the painted stack, far more than any routine needs.
 const SIZE: usize = 1 << 14;
-/// A byte that a routine writes may be that of the paint, so each call is made on two paints.
+/// A byte that a routine writes may be that of the paint, so each call is made on two paints. A register that
+/// holds the paint may be saved: it is a whole word.
 const PAINTS: [u8; 2] = [0xA5, 0x5A];
 /// No routine goes deeper.
 const MOST: usize = 1 << 10;
@@ -90,6 +91,10 @@ entries! {
         let (p, length) = read(&c.first);
         [p, length, 0, 0, 0, 0]
     },
+    test_split as matrix_test_split: |c, _| {
+        let (p, length) = read(&c.first);
+        [p, length, 0, 0, 0, 0]
+    },
     place_of as matrix_place_of: |c, _| [c.bytes[0].into(), 0, 0, 0, 0, 0],
     parameter_of as matrix_parameter_of: |c, _| [c.bytes[0].into(), 0, 0, 0, 0, 0],
     range_of as matrix_range_of: |c, struct_at| [struct_at, c.bytes[0].into(), 0, 0, 0, 0],
@@ -118,6 +123,11 @@ entries! {
         [p, length, bus, source, amount, destination]
     },
     write_patch as matrix_write_patch: |c, _| {
+        let (p, length) = read(&c.first);
+        let (out, size) = written(&mut c.second);
+        [c.bytes[0].into(), p, length, out, size, 0]
+    },
+    write_split as matrix_write_split: |c, _| {
         let (p, length) = read(&c.first);
         let (out, size) = written(&mut c.second);
         [c.bytes[0].into(), p, length, out, size, 0]
@@ -306,7 +316,8 @@ fn depth(entry: &Entry, call: &mut Call) -> usize {
         assert_ne!(kept, 0, "the painted stack is too small");
         SIZE - kept
     });
-    depths.into_iter().max().expect("there are paints")
+    let deepest = depths.into_iter().max().expect("there are paints");
+    deepest.next_multiple_of(size_of::<usize>())
 }
 
 /// A stack begins at an address that is a multiple of 16.

@@ -10,7 +10,7 @@ use crate::listing::{push_line, LONGEST_INPUT};
 use crate::patch::Patch;
 use crate::plans::{bus_at, parts, plan, Part, LONGEST_PLAN};
 use crate::reading::{read, reports};
-use crate::table::{value_at, PATCH_LENGTH};
+use crate::table::{FIELDS, PATCH_LENGTH};
 
 /// What the command prints: the list as bytes, or a line for each of its edits.
 ///
@@ -89,14 +89,14 @@ fn edit_lines(a: &Patch, b: &Patch) -> Vec<u8> {
 fn push_edit(text: &mut Vec<u8>, part: Part, a: &Patch, b: &Patch) -> std::io::Result<()> {
     match part {
         Part::Parameter { place, parameter } => {
-            let [before, after] = [a, b].map(|patch| value_at(place, patch[place]));
+            let [before, after] = [a, b].map(|patch| FIELDS.value_at(place, patch[place]));
             writeln!(text, "{place} parameter {parameter} {before} {after}")
         }
         Part::Bus { place, bus } => {
             write!(text, "{place} bus {bus}")?;
             for patch in [a, b] {
                 for (place, byte) in (place..).zip(bus_at(patch, place)) {
-                    write!(text, " {}", value_at(place, byte))?;
+                    write!(text, " {}", FIELDS.value_at(place, byte))?;
                 }
             }
             writeln!(text)

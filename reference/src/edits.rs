@@ -1,8 +1,8 @@
 //! Remote edits (06H) and matrix modulation edits (0BH), tested and applied.
 
 use crate::answers::{Outcome, Refusal, HALF_USED, NOT_ALLOWED};
-use crate::patch::{half_used, test_field, tested_mut, Patch, BUSES};
-use crate::table::place_of;
+use crate::patch::{half_used, tested_mut, Patch, BUSES};
+use crate::table::{place_of, FIELDS};
 
 /// The one parameter that isn't extended: VCF frequency has seven bits and no sign.
 const VCF_FREQUENCY: u8 = 21;
@@ -55,7 +55,7 @@ impl Change {
         } else {
             extend(value)
         };
-        test_field(place, stored)?;
+        FIELDS.test_at(place, stored)?;
         Ok(Self { place, stored })
     }
 
@@ -80,7 +80,7 @@ impl BusChange {
         let place = BUSES + 3 * usize::from(bus);
         let stored = [source, extend(amount), destination];
         for (place, byte) in (place..).zip(stored) {
-            test_field(place, byte)?;
+            FIELDS.test_at(place, byte)?;
         }
         if half_used(source, destination) {
             return Err(Refusal::at(HALF_USED, usize::from(bus)));

@@ -2,7 +2,7 @@
 
 use crate::answers::{RangeOutcome, Refusal, ValueOutcome, DONE, NOT_ALLOWED};
 use crate::patch::tested;
-use crate::table::{place_of, value_at, ROWS};
+use crate::table::{place_of, FIELDS, ROWS};
 
 /// The least and the greatest value of a parameter, with their signs; 8 for a number that is no
 /// parameter's.
@@ -47,7 +47,7 @@ pub fn value_of(patch: &[u8], parameter: u8) -> ValueOutcome {
 fn held(patch: &[u8], parameter: u8) -> Result<i16, Refusal> {
     let place = field(parameter)?;
     let patch = tested(patch)?;
-    Ok(value_at(place, patch[place]))
+    Ok(FIELDS.value_at(place, patch[place]))
 }
 
 /// The byte place of a parameter, else 8.

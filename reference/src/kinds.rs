@@ -1,4 +1,4 @@
-//! The five message kinds: opcodes, lengths and the bytes before them.
+//! The six message kinds: opcodes, lengths and the bytes before them.
 
 /// The manufacturer's number.
 pub const OBERHEIM: u8 = 0x10;
@@ -8,6 +8,8 @@ pub const MATRIX: u8 = 0x06;
 pub const VERSION: u8 = 3;
 /// The greatest patch number.
 pub const LAST_NUMBER: u8 = 99;
+/// The greatest split number.
+pub const LAST_SPLIT: u8 = 49;
 /// The number of packed bytes in a master.
 pub const MASTER_LENGTH: usize = 172;
 
@@ -18,6 +20,8 @@ pub(crate) const ENVELOPE: usize = 5;
 pub mod opcode {
     /// Single patch.
     pub const SINGLE_PATCH: u8 = 0x01;
+    /// Split of the Matrix-6R.
+    pub const SPLIT: u8 = 0x02;
     /// Master parameters.
     pub const MASTER: u8 = 0x03;
     /// Remote edit.
@@ -32,6 +36,8 @@ pub mod opcode {
 pub mod length {
     /// Single patch.
     pub const SINGLE_PATCH: usize = 275;
+    /// Split. 003 prints 42, but its header of 5, 36 nibbles, checksum and end are 43.
+    pub const SPLIT: usize = 43;
     /// Master parameters, the longest.
     pub const MASTER: usize = 351;
     /// Remote edit.

@@ -1,4 +1,5 @@
-//! Oberheim Matrix-1000 system exclusive dumps: reading, testing, editing, writing and listing.
+//! Oberheim Matrix-1000 and Matrix-6R system exclusive dumps: reading, testing, editing, writing and
+//! listing.
 //!
 //! An independent second program, written from the papers only. It makes dumps and the answers
 //! expected for them, against which the register's library is compared byte for byte.
@@ -32,6 +33,8 @@ mod patch;
 mod plans;
 mod reading;
 mod records;
+mod rows;
+pub mod splits;
 pub mod streams;
 pub mod table;
 mod writing;
@@ -47,8 +50,9 @@ pub use names::{set_name, show_name, NAME_LENGTH};
 pub use patch::test_patch;
 pub use plans::{check_plan, plan, LONGEST_PLAN};
 pub use reading::{read, reports, walk, Reports};
+pub use splits::{outside_split, test_split, SPLIT_LENGTH};
 pub use table::{outside, parameter_of, place_of, PATCH_LENGTH};
 pub use writing::{
     write_bank, write_bus_edit, write_edit, write_edit_buffer, write_master, write_patch,
-    BANK_PATCHES,
+    write_split, BANK_PATCHES,
 };

@@ -1,7 +1,7 @@
 //! The tests of a patch: its length, its fields, its buses.
 
 use crate::answers::{Outcome, Refusal, HALF_USED, WRONG_LENGTH};
-use crate::table::{allows, value_at, GREATEST, LEAST, PATCH_LENGTH};
+use crate::table::{FIELDS, PATCH_LENGTH};
 
 /// The place of bus 0's source; three bytes to a bus.
 pub(crate) const BUSES: usize = 104;
@@ -40,35 +40,11 @@ pub(crate) fn sized_mut(patch: &mut [u8]) -> Result<&mut Patch, Refusal> {
 
 /// 11 with the lowest place and its value, then 12 with the lowest bus.
 pub(crate) fn test(patch: &Patch) -> Result<(), Refusal> {
-    if out_of_range(patch) {
-        for (place, &byte) in patch.iter().enumerate() {
-            test_field(place, byte)?;
-        }
-    }
+    FIELDS.test(patch)?;
     match first_half_used(patch) {
         Some(bus) => Err(Refusal::at(HALF_USED, bus)),
         None => Ok(()),
     }
-}
-
-/// 11 with the place and its value, for a byte that the field there doesn't allow.
-pub(crate) fn test_field(place: usize, byte: u8) -> Result<(), Refusal> {
-    if allows(place, byte) {
-        return Ok(());
-    }
-    Err(Refusal::found(place, value_at(place, byte)))
-}
-
-/// Whether any byte is out of range. The usual patch has none, and the whole has no branches.
-fn out_of_range(patch: &Patch) -> bool {
-    let ranges = LEAST.iter().zip(&GREATEST);
-    patch
-        .iter()
-        .zip(ranges)
-        .fold(false, |any, (byte, (&least, &greatest))| {
-            let value = byte.cast_signed();
-            any | (value < least) | (value > greatest)
-        })
 }
 
 fn first_half_used(patch: &Patch) -> Option<usize> {

@@ -7,15 +7,17 @@ use crate::answers::{
 use crate::edits::{BusChange, Change};
 use crate::frames::{is_real_time, Ending};
 use crate::kinds::{
-    length, opcode, ENVELOPE, LAST_NUMBER, MASTER_LENGTH, MATRIX, OBERHEIM, VERSION,
+    length, opcode, ENVELOPE, LAST_NUMBER, LAST_SPLIT, MASTER_LENGTH, MATRIX, OBERHEIM, VERSION,
 };
 use crate::nibbles::{first_wide, pack, sum};
-use crate::patch::{test, Patch};
+use crate::patch::{self, Patch};
+use crate::splits::{self, Split, SPLIT_LENGTH};
 use crate::table::PATCH_LENGTH;
 
 /// What an accepted message holds.
 pub(crate) enum Record {
     SinglePatch { number: u8, patch: Patch },
+    Split { number: u8, split: Split },
     Master { master: [u8; MASTER_LENGTH] },
     RemoteEdit { bytes: [u8; 2] },
     BusEdit { bytes: [u8; 4] },
@@ -38,6 +40,7 @@ impl Record {
     pub const fn opcode(&self) -> u8 {
         match self {
             Self::SinglePatch { .. } => opcode::SINGLE_PATCH,
+            Self::Split { .. } => opcode::SPLIT,
             Self::Master { .. } => opcode::MASTER,
             Self::RemoteEdit { .. } => opcode::REMOTE_EDIT,
             Self::BusEdit { .. } => opcode::BUS_EDIT,
@@ -45,10 +48,11 @@ impl Record {
         }
     }
 
-    /// A patch number or an edit's bytes, as received; zero where the message has none.
+    /// The number of a patch or a split, or an edit's bytes, as received; zero where the message
+    /// has none.
     pub const fn bytes(&self) -> [u8; 4] {
         match *self {
-            Self::SinglePatch { number, .. } => [number, 0, 0, 0],
+            Self::SinglePatch { number, .. } | Self::Split { number, .. } => [number, 0, 0, 0],
             Self::RemoteEdit {
                 bytes: [parameter, value],
             } => [parameter, value, 0, 0],
@@ -61,13 +65,14 @@ impl Record {
     pub const fn packed(&self) -> &[u8] {
         match self {
             Self::SinglePatch { patch, .. } | Self::EditBuffer { patch } => patch,
+            Self::Split { split, .. } => split,
             Self::Master { master } => master,
             Self::RemoteEdit { .. } | Self::BusEdit { .. } => &[],
         }
     }
 }
 
-/// The most bytes between F0H and F7H that a message of the five kinds has, real time dropped.
+/// The most bytes between F0H and F7H that a message of the six kinds has, real time dropped.
 const LONGEST: usize = length::MASTER - 2;
 
 /// Real time is dropped from this many bytes at a time.
@@ -139,6 +144,7 @@ pub(crate) fn parse(content: &[u8]) -> Result<Record, Refusal> {
     let (&opcode, body) = content.split_first().ok_or(Refusal::plain(OTHER_OPCODE))?;
     match opcode {
         opcode::SINGLE_PATCH => single_patch(exact(body)?),
+        opcode::SPLIT => split(exact(body)?),
         opcode::MASTER => master(exact(body)?),
         opcode::REMOTE_EDIT => remote_edit(*exact(body)?),
         opcode::BUS_EDIT => bus_edit(*exact(body)?),
@@ -157,8 +163,17 @@ fn single_patch(body: &[u8; length::SINGLE_PATCH - ENVELOPE]) -> Result<Record, 
     allow(number <= LAST_NUMBER)?;
     let mut patch = [0; PATCH_LENGTH];
     pack_tested(data, sum, &mut patch)?;
-    test(&patch)?;
+    patch::test(&patch)?;
     Ok(Record::SinglePatch { number, patch })
+}
+
+fn split(body: &[u8; length::SPLIT - ENVELOPE]) -> Result<Record, Refusal> {
+    let &[number, ref data @ .., sum] = body;
+    allow(number <= LAST_SPLIT)?;
+    let mut split = [0; SPLIT_LENGTH];
+    pack_tested(data, sum, &mut split)?;
+    splits::test(&split)?;
+    Ok(Record::Split { number, split })
 }
 
 fn edit_buffer(body: &[u8; length::EDIT_BUFFER - ENVELOPE]) -> Result<Record, Refusal> {
@@ -166,7 +181,7 @@ fn edit_buffer(body: &[u8; length::EDIT_BUFFER - ENVELOPE]) -> Result<Record, Re
     allow(zero == 0)?;
     let mut patch = [0; PATCH_LENGTH];
     pack_tested(data, sum, &mut patch)?;
-    test(&patch)?;
+    patch::test(&patch)?;
     Ok(Record::EditBuffer { patch })
 }
 

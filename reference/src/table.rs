@@ -1,37 +1,11 @@
 //! The single patch listing of source document 000, row by row: byte, parameter, number of bits,
 //! description. Where document 01 or 02 corrects a row, the row says so.
 
+pub use crate::rows::Row;
+use crate::rows::{bits, plain, row, signed, Fields, Range};
+
 /// The number of packed bytes in a patch.
 pub const PATCH_LENGTH: usize = 134;
-
-/// One row of the listing.
-#[derive(Clone, Copy, Debug, PartialEq, Eq)]
-pub struct Row {
-    /// The byte place, 0 to 133.
-    pub place: u8,
-    /// The parameter number; names and buses have none.
-    pub parameter: Option<u8>,
-    /// The least value, with its sign.
-    pub least: i8,
-    /// The greatest value.
-    pub greatest: i8,
-    /// The description.
-    pub name: &'static str,
-}
-
-/// The least and the greatest value of a field.
-type Range = (i8, i8);
-
-/// n bits means 0 to 2^n - 1.
-const fn bits(n: u32) -> Range {
-    (0, ((1_u8 << n) - 1).cast_signed())
-}
-
-/// n bits, one of them the sign.
-const fn signed(n: u32) -> Range {
-    let half = 1_i8 << (n - 1);
-    (-half, half - 1)
-}
 
 /// A list of codes, where the bits don't decide.
 const fn codes(least: i8, greatest: i8) -> Range {
@@ -40,24 +14,6 @@ const fn codes(least: i8, greatest: i8) -> Range {
 
 /// The destinations of Table 3, the last of them Portamento Time; 0 is an unused bus's.
 const TABLE_3: Range = codes(0, 32);
-
-const fn row(place: u8, parameter: u8, range: Range, name: &'static str) -> Row {
-    Row {
-        parameter: Some(parameter),
-        ..plain(place, range, name)
-    }
-}
-
-/// A row whose parameter column is empty.
-const fn plain(place: u8, (least, greatest): Range, name: &'static str) -> Row {
-    Row {
-        place,
-        parameter: None,
-        least,
-        greatest,
-        name,
-    }
-}
 
 /// All 134 rows, each at the index of its place.
 pub static ROWS: [Row; PATCH_LENGTH] = LISTING;
@@ -217,21 +173,8 @@ const LISTING: [Row; PATCH_LENGTH] = [
     plain(133, TABLE_3, "Matrix Modulation Bus 9 Destination Code"),
 ];
 
-/// The least value at each place, and the greatest: the columns the field test runs over.
-pub(crate) static LEAST: [i8; PATCH_LENGTH] = bounds().0;
-pub(crate) static GREATEST: [i8; PATCH_LENGTH] = bounds().1;
-
-const fn bounds() -> ([i8; PATCH_LENGTH], [i8; PATCH_LENGTH]) {
-    let mut least = [0; PATCH_LENGTH];
-    let mut greatest = [0; PATCH_LENGTH];
-    let mut place = 0;
-    while place < PATCH_LENGTH {
-        least[place] = LISTING[place].least;
-        greatest[place] = LISTING[place].greatest;
-        place += 1;
-    }
-    (least, greatest)
-}
+/// The fields of a patch.
+pub(crate) static FIELDS: Fields<PATCH_LENGTH> = Fields::of(&LISTING);
 
 /// The byte place of each parameter number.
 static PLACES: [Option<u8>; 256] = {
@@ -261,26 +204,8 @@ pub fn parameter_of(place: u8) -> Option<u8> {
     ROWS.get(usize::from(place))?.parameter
 }
 
-/// Whether a field may hold this byte. Every range lies in -64..127, so the byte read as signed
-/// serves the unsigned fields too: 128 and above are below their least value.
-pub(crate) fn allows(place: usize, byte: u8) -> bool {
-    (LEAST[place]..=GREATEST[place]).contains(&byte.cast_signed())
-}
-
-/// The value of a byte at a place: with its sign where the field has one, else the byte as it
-/// stands. A field has a sign exactly where its least value is below 0.
-pub(crate) fn value_at(place: usize, byte: u8) -> i16 {
-    if LEAST[place] < 0 {
-        byte.cast_signed().into()
-    } else {
-        byte.into()
-    }
-}
-
 /// All bytes that are out of range at a byte place, rising; none for a place that a patch lacks.
 #[must_use]
 pub fn outside(place: u8) -> Vec<u8> {
-    let place = usize::from(place);
-    let refused = |&byte: &u8| place < PATCH_LENGTH && !allows(place, byte);
-    (0..=255).filter(refused).collect()
+    FIELDS.outside(place)
 }

@@ -4,10 +4,11 @@ use crate::answers::{BankOutcome, Outcome, Refusal, DONE, NOT_ALLOWED, TOO_SHORT
 use crate::edits::{BusChange, Change};
 use crate::frames::{END, START};
 use crate::kinds::{
-    length, opcode, ENVELOPE, LAST_NUMBER, MASTER_LENGTH, MATRIX, OBERHEIM, VERSION,
+    length, opcode, ENVELOPE, LAST_NUMBER, LAST_SPLIT, MASTER_LENGTH, MATRIX, OBERHEIM, VERSION,
 };
 use crate::nibbles::{sum, unpack};
 use crate::patch::{sized, test, tested, Patch};
+use crate::splits::{self, Split};
 use crate::table::PATCH_LENGTH;
 
 /// The greatest number of patches in a bank.
@@ -17,6 +18,13 @@ pub const BANK_PATCHES: usize = 100;
 pub fn write_patch(number: u8, patch: &[u8], out: &mut [u8]) -> Outcome {
     numbered(number, patch)
         .and_then(|patch| put_dump(opcode::SINGLE_PATCH, number, patch, out))
+        .into()
+}
+
+/// Writes a split (02H): 7, 8, 11, 13.
+pub fn write_split(number: u8, split: &[u8], out: &mut [u8]) -> Outcome {
+    numbered_split(number, split)
+        .and_then(|split| put_dump(opcode::SPLIT, number, split, out))
         .into()
 }
 
@@ -97,6 +105,16 @@ fn numbered(number: u8, patch: &[u8]) -> Result<&Patch, Refusal> {
     }
     test(patch)?;
     Ok(patch)
+}
+
+/// A split with its number: 7, 8, 11.
+fn numbered_split(number: u8, split: &[u8]) -> Result<&Split, Refusal> {
+    let split = splits::sized(split)?;
+    if number > LAST_SPLIT {
+        return Err(Refusal::plain(NOT_ALLOWED));
+    }
+    splits::test(split)?;
+    Ok(split)
 }
 
 /// The first `length` bytes of a lent output, else 13.

@@ -1,7 +1,7 @@
 //! Edits: of one field, and of one modulation bus.
 
 use crate::ffi;
-use crate::{Bus, Error, NotAllowed, Parameter, Patch};
+use crate::{Bus, Error, Format, NotAllowed, Parameter, Patch};
 
 /// A remote edit (06H): a parameter and its value, in the field's range.
 ///
@@ -80,8 +80,7 @@ impl Edit {
     pub fn new(parameter: Parameter, value: i16) -> Result<Self, Error> {
         // Other values have the same seven bits; the field takes one of them.
         if !parameter.range().contains(&value) {
-            let place = parameter.place();
-            return Err(Error::OutOfRange { place, value });
+            return Err(Format::Patch.out_of_range(parameter.place(), value));
         }
         Self::from_bytes(parameter.number(), value.to_le_bytes()[0] & 0x7F)
     }

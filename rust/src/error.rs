@@ -3,8 +3,7 @@
 use std::{fmt, io};
 
 use crate::ffi;
-use crate::patch;
-use crate::{Bank, Kind, Master, Parameter, Patch, Reader};
+use crate::{Bank, Format, Kind, Master, Parameter, Patch, Reader, Split};
 
 /// Why something was refused: the register's number with its detail and value, and in print a sentence
 /// that says what was found and what is expected.
@@ -39,7 +38,7 @@ pub enum Error {
     OtherMaker,
     /// 5: the message is for another device, or for none.
     OtherDevice,
-    /// 6: the opcode is not among the five, or there is none.
+    /// 6: the opcode is not among the six, or there is none.
     OtherOpcode,
     /// 7: the length is wrong.
     WrongLength(Length),
@@ -56,7 +55,9 @@ pub enum Error {
     /// 11: a field is out of range.
     #[non_exhaustive]
     OutOfRange {
-        /// The lowest such byte place in the patch.
+        /// Whose field it is: a patch's, for an edit too, or a split's.
+        format: Format,
+        /// The lowest such byte place.
         place: usize,
         /// The value there, with its sign where the field has one: the one found, the one that an
         /// edit as it is sent would store, or the one asked for.
@@ -109,12 +110,16 @@ pub enum Length {
     },
     /// The packed bytes of a patch.
     Patch(usize),
+    /// The packed bytes of a split.
+    Split(usize),
     /// The packed bytes of a bank.
     Bank(usize),
     /// The packed bytes of a master.
     Master(usize),
-    /// The text of a name.
+    /// The text of a patch's name.
     Name(usize),
+    /// The text of a split's name.
+    SplitName(usize),
 }
 
 /// What is not allowed where it was found.
@@ -123,6 +128,8 @@ pub enum Length {
 pub enum NotAllowed {
     /// As the number of a patch.
     PatchNumber(u8),
+    /// As the number of a split.
+    SplitNumber(u8),
     /// As the version of a master.
     Version(u8),
     /// Behind the opcode of a patch to the edit buffer.
@@ -146,6 +153,8 @@ pub(crate) enum Bare {
     Length,
     /// 8.
     Number,
+    /// 11, with the detail and the value.
+    Field { place: usize, value: i16 },
     /// 13.
     Room,
     /// 16.
@@ -221,10 +230,10 @@ impl Error {
             8 => about(Bare::Number),
             9 => Self::WideData { index: detail },
             10 => Self::WrongSum,
-            11 => Self::OutOfRange {
+            11 => about(Bare::Field {
                 place: detail,
                 value,
-            },
+            }),
             12 => Self::HalfUsed { bus: detail },
             13 => about(Bare::Room),
             16 => about(Bare::Names),
@@ -234,14 +243,15 @@ impl Error {
         })
     }
 
-    /// Of a writer that was lent no room: 13 says that every test before it was passed.
+    /// Of a writer of edits or patches that was lent no room: 13 says that every test before it was
+    /// passed.
     pub(crate) fn tested(
         outcome: ffi::Outcome,
         about: impl FnOnce(Bare) -> Self,
     ) -> Result<(), Self> {
         match outcome.answer {
             13 => Ok(()),
-            _ => Self::check(outcome, about).map(drop),
+            _ => Self::check(outcome, |bare| Format::Patch.about(bare, about)).map(drop),
         }
     }
 }
@@ -259,17 +269,18 @@ impl fmt::Display for Error {
             Self::NotAllowed(what) => what.fmt(f),
             Self::WideData { index } => write!(f, "data byte {index} is above 15"),
             Self::WrongSum => f.write_str("the checksum does not fit the data"),
-            Self::OutOfRange { place, value } if *place >= Patch::LENGTH => {
-                write!(f, "{value} is out of range for byte {place} of the patch")
-            }
-            Self::OutOfRange { place, value } => {
-                let (what, range) = (patch::field_at(*place), patch::range_at(*place));
-                let (least, greatest) = range.into_inner();
-                write!(
-                    f,
-                    "{value} is out of range for {what}, byte {place} of the patch: \
-                     {least} to {greatest}"
-                )
+            Self::OutOfRange {
+                format,
+                place,
+                value,
+            } => {
+                write!(f, "{value} is out of range for ")?;
+                if *place >= format.length() {
+                    return write!(f, "byte {place} of the {format}");
+                }
+                let (least, greatest) = format.range_at(*place).into_inner();
+                let what = format.field_at(*place);
+                write!(f, "{what}, byte {place} of the {format}: {least} to {greatest}")
             }
             Self::HalfUsed { bus } => write!(
                 f,
@@ -307,6 +318,7 @@ impl fmt::Display for Length {
                 write!(f, "a {kind} message has {length} bytes, not {found}")
             }
             Self::Patch(found) => write!(f, "a patch has {} bytes, not {found}", Patch::LENGTH),
+            Self::Split(found) => write!(f, "a split has {} bytes, not {found}", Split::LENGTH),
             Self::Bank(found) => write!(
                 f,
                 "a bank has {} bytes for each of at most {} patches, not {found} in all",
@@ -316,8 +328,13 @@ impl fmt::Display for Length {
             Self::Master(found) => write!(f, "a master has {} bytes, not {found}", Master::LENGTH),
             Self::Name(found) => write!(
                 f,
-                "a name has {} bytes, filled up with spaces, not {found}",
+                "a patch's name has {} bytes, filled up with spaces, not {found}",
                 Patch::NAME_LENGTH
+            ),
+            Self::SplitName(found) => write!(
+                f,
+                "a split's name has {} bytes, filled up with spaces, not {found}",
+                Split::NAME_LENGTH
             ),
         }
     }
@@ -329,6 +346,10 @@ impl fmt::Display for NotAllowed {
             Self::PatchNumber(found) => {
                 let last = Bank::PATCHES - 1;
                 write!(f, "patch number {found} is not allowed: 0 to {last}")
+            }
+            Self::SplitNumber(found) => {
+                let last = Split::COUNT - 1;
+                write!(f, "split number {found} is not allowed: 0 to {last}")
             }
             Self::Version(found) => write!(f, "version {found} of a master is not allowed: 3"),
             Self::Zero(found) => {

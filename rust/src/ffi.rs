@@ -39,7 +39,7 @@ pub struct Report {
 pub struct Reading {
     /// What is said of it.
     pub report: Report,
-    /// A patch number, or an edit's two or four bytes; zero elsewhere.
+    /// The number of a patch or a split, or an edit's two or four bytes; zero elsewhere.
     pub bytes: [u8; 4],
 }
 
@@ -183,6 +183,7 @@ mod raw {
         ) -> Fed;
         pub safe fn matrix_cable_end(state: &mut Cable) -> Fed;
         pub unsafe fn matrix_test_patch(p: *const u8, p_len: usize) -> Outcome;
+        pub unsafe fn matrix_test_split(p: *const u8, p_len: usize) -> Outcome;
         pub safe fn matrix_place_of(parameter: u8) -> u8;
         pub safe fn matrix_parameter_of(place: u8) -> u8;
         pub safe fn matrix_range_of(parameter: u8) -> Range;
@@ -214,6 +215,13 @@ mod raw {
             destination: u8,
         ) -> Outcome;
         pub unsafe fn matrix_write_patch(
+            number: u8,
+            p: *const u8,
+            p_len: usize,
+            out: *mut u8,
+            out_len: usize,
+        ) -> Outcome;
+        pub unsafe fn matrix_write_split(
             number: u8,
             p: *const u8,
             p_len: usize,
@@ -326,6 +334,13 @@ pub fn test_patch(p: &[u8]) -> Outcome {
     unsafe { raw::matrix_test_patch(p.as_ptr(), p.len()) }
 }
 
+/// Tests a split.
+#[inline]
+pub fn test_split(p: &[u8]) -> Outcome {
+    // SAFETY: one slice with its own length, not written.
+    unsafe { raw::matrix_test_split(p.as_ptr(), p.len()) }
+}
+
 /// The byte place of a parameter, or [`NONE`].
 #[inline]
 pub fn place_of(parameter: u8) -> u8 {
@@ -385,6 +400,13 @@ pub fn apply_bus_edit(p: &mut [u8], edit: [u8; 4]) -> Outcome {
 pub fn write_patch(number: u8, p: &[u8], out: &mut [u8]) -> Outcome {
     // SAFETY: two slices with their own lengths; `out`, which is written, is `&mut`.
     unsafe { raw::matrix_write_patch(number, p.as_ptr(), p.len(), out.as_mut_ptr(), out.len()) }
+}
+
+/// Writes a split (02H).
+#[inline]
+pub fn write_split(number: u8, p: &[u8], out: &mut [u8]) -> Outcome {
+    // SAFETY: two slices with their own lengths; `out`, which is written, is `&mut`.
+    unsafe { raw::matrix_write_split(number, p.as_ptr(), p.len(), out.as_mut_ptr(), out.len()) }
 }
 
 /// Writes a patch to the edit buffer (0DH).

@@ -1,5 +1,5 @@
-//! Oberheim Matrix-1000 system exclusive dumps: reading, from memory or as they come in, testing,
-//! editing and writing, and the edits that turn one patch into another.
+//! Oberheim Matrix-1000 and Matrix-6R system exclusive dumps: reading, from memory or as they come in,
+//! testing, editing and writing, and the edits that turn one patch into another.
 //!
 //! A safe face of a library that is proved. What a message is, which are refused and why, what a
 //! field may hold and what a dump's bytes are is all decided there. Here only a value outside the range
@@ -35,6 +35,8 @@
 //! # Ok::<(), Error>(())
 //! ```
 //!
+//! A [`Split`] of a Matrix-6R is read, changed and written as a patch is.
+//!
 //! A [`Reader`] is fed what has arrived from a cable so far, and [`incoming`] finds the messages of
 //! anything that is read. Of the two programs in `examples/`, `names` lists the names of the patches in
 //! files, and `cable` what comes in on standard input, a line at the end of each message.
@@ -48,18 +50,22 @@ mod edits;
 mod error;
 #[allow(unsafe_code)]
 mod ffi;
+mod format;
 mod message;
 mod parameter;
 mod patch;
 mod plan;
+mod split;
 mod stream;
 
 pub use bank::Bank;
 pub use cable::{incoming, Fed, Incoming, Reader};
 pub use edits::{BusEdit, Edit, PatchEdit};
 pub use error::{BankError, Error, Length, NotAllowed};
+pub use format::Format;
 pub use message::{to_vec, to_writer, Kind, Master, Message};
 pub use parameter::{Parameter, ParseParameterError};
 pub use patch::{Bus, Patch};
 pub use plan::Edits;
+pub use split::{Split, Voices, Zone};
 pub use stream::{messages, report_at, reports, Found, Messages, Report, Reports};

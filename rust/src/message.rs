@@ -5,7 +5,7 @@ use std::{fmt, io};
 use crate::error::Bare;
 use crate::ffi;
 use crate::stream::messages;
-use crate::{BusEdit, Edit, Error, Length, NotAllowed, Patch, PatchEdit};
+use crate::{BusEdit, Edit, Error, Format, Length, NotAllowed, Patch, PatchEdit, Split};
 
 /// The kinds of message.
 #[derive(Clone, Copy, Debug, PartialEq, Eq, Hash)]
@@ -13,6 +13,8 @@ use crate::{BusEdit, Edit, Error, Length, NotAllowed, Patch, PatchEdit};
 pub enum Kind {
     /// A single patch with its number (01H).
     Patch,
+    /// A split of a Matrix-6R with its number (02H).
+    Split,
     /// The master parameters (03H).
     Master,
     /// A remote edit (06H).
@@ -29,6 +31,7 @@ impl Kind {
     pub const fn opcode(self) -> u8 {
         match self {
             Self::Patch => 0x01,
+            Self::Split => 0x02,
             Self::Master => 0x03,
             Self::Edit => 0x06,
             Self::BusEdit => 0x0B,
@@ -41,9 +44,32 @@ impl Kind {
     pub const fn length(self) -> usize {
         match self {
             Self::Patch | Self::EditBuffer => 275,
+            Self::Split => 43,
             Self::Master => 351,
             Self::Edit => 7,
             Self::BusEdit => 9,
+        }
+    }
+
+    /// The format of the fields that are tested in reading: for an edit, of those it would set. A
+    /// master has none.
+    pub(crate) const fn format(self) -> Option<Format> {
+        match self {
+            Self::Patch | Self::Edit | Self::BusEdit | Self::EditBuffer => Some(Format::Patch),
+            Self::Split => Some(Format::Split),
+            Self::Master => None,
+        }
+    }
+
+    /// What is not allowed where the byte behind the opcode is refused.
+    pub(crate) fn not_allowed(self, behind: u8) -> NotAllowed {
+        match self {
+            Self::Patch => NotAllowed::PatchNumber(behind),
+            Self::Split => NotAllowed::SplitNumber(behind),
+            Self::Master => NotAllowed::Version(behind),
+            Self::Edit => NotAllowed::Parameter(behind),
+            Self::BusEdit => NotAllowed::Bus(behind.into()),
+            Self::EditBuffer => NotAllowed::Zero(behind),
         }
     }
 }
@@ -55,6 +81,7 @@ impl TryFrom<u8> for Kind {
     fn try_from(opcode: u8) -> Result<Self, Error> {
         let kinds = [
             Self::Patch,
+            Self::Split,
             Self::Master,
             Self::Edit,
             Self::BusEdit,
@@ -69,6 +96,7 @@ impl fmt::Display for Kind {
     fn fmt(&self, f: &mut fmt::Formatter<'_>) -> fmt::Result {
         f.pad(match self {
             Self::Patch => "single patch",
+            Self::Split => "split",
             Self::Master => "master parameters",
             Self::Edit => "remote edit",
             Self::BusEdit => "matrix modulation edit",
@@ -131,6 +159,13 @@ pub enum Message {
         /// The patch.
         patch: Patch,
     },
+    /// A split of a Matrix-6R (02H).
+    Split {
+        /// The split's number, 0 to 49.
+        number: u8,
+        /// The split.
+        split: Split,
+    },
     /// The master parameters (03H).
     Master(Master),
     /// A remote edit (06H).
@@ -171,6 +206,7 @@ impl Message {
     pub const fn kind(&self) -> Kind {
         match self {
             Self::Patch { .. } => Kind::Patch,
+            Self::Split { .. } => Kind::Split,
             Self::Master(_) => Kind::Master,
             Self::Edit(_) => Kind::Edit,
             Self::BusEdit(_) => Kind::BusEdit,
@@ -187,16 +223,26 @@ impl Message {
         }
     }
 
+    /// The message's split, if it is a dump of one.
+    #[must_use]
+    pub const fn split(&self) -> Option<&Split> {
+        match self {
+            Self::Split { split, .. } => Some(split),
+            _ => None,
+        }
+    }
+
     /// Writes the message to the start of an output and gives its length. Bytes behind it are kept.
     ///
     /// # Errors
     ///
-    /// [`Error::NotAllowed`] for a patch number above 99, [`Error::NoRoom`] for an output that is
-    /// too short. The output is then kept.
+    /// [`Error::NotAllowed`] for a patch number above 99 and a split number above 49,
+    /// [`Error::NoRoom`] for an output that is too short. The output is then kept.
     pub fn write_to_slice(&self, out: &mut [u8]) -> Result<usize, Error> {
         let given = out.len();
         let written = match self {
             Self::Patch { number, patch } => ffi::write_patch(*number, patch.as_bytes(), out),
+            Self::Split { number, split } => ffi::write_split(*number, split.as_bytes(), out),
             Self::Master(master) => ffi::write_master(master.as_bytes(), out),
             Self::Edit(edit) => {
                 let [parameter, value] = edit.bytes();
@@ -206,8 +252,8 @@ impl Message {
             Self::EditBuffer(patch) => ffi::write_edit_buffer(patch.as_bytes(), out),
         };
         Error::check(written, |bare| match (bare, self) {
-            (Bare::Number, Self::Patch { number, .. }) => {
-                Error::NotAllowed(NotAllowed::PatchNumber(*number))
+            (Bare::Number, Self::Patch { number, .. } | Self::Split { number, .. }) => {
+                Error::NotAllowed(self.kind().not_allowed(*number))
             }
             _ => Error::NoRoom {
                 needed: self.kind().length(),
@@ -220,8 +266,8 @@ impl Message {
     ///
     /// # Errors
     ///
-    /// The writer's own, and [`Error::NotAllowed`] inside an [`io::Error`] for a patch number above
-    /// 99, for which nothing is written.
+    /// The writer's own, and [`Error::NotAllowed`] inside an [`io::Error`] for a patch number above 99
+    /// and a split number above 49, for which nothing is written.
     pub fn write_to<W: io::Write>(&self, mut writer: W) -> io::Result<usize> {
         let mut bytes = [0; Self::LONGEST];
         let length = self.write_to_slice(&mut bytes)?;
@@ -233,7 +279,7 @@ impl Message {
     ///
     /// # Errors
     ///
-    /// [`Error::NotAllowed`] for a patch number above 99.
+    /// [`Error::NotAllowed`] for a patch number above 99 and a split number above 49.
     ///
     /// ```
     /// use matrix1000::{Error, Message, Patch};
@@ -254,7 +300,8 @@ impl Message {
 
 /// The bytes of messages, one after the other.
 ///
-/// Numbered patches keep the numbers they have. (A [`Bank`](crate::Bank) numbers its patches from 0.)
+/// Numbered patches and splits keep the numbers they have. (A [`Bank`](crate::Bank) numbers its
+/// patches from 0.)
 ///
 /// ```
 /// use std::collections::BTreeMap;
@@ -282,7 +329,7 @@ impl Message {
 ///
 /// # Errors
 ///
-/// [`Error::NotAllowed`] for a patch number above 99.
+/// [`Error::NotAllowed`] for a patch number above 99 and a split number above 49.
 pub fn to_vec<M: Into<Message>>(messages: impl IntoIterator<Item = M>) -> Result<Vec<u8>, Error> {
     let mut bytes = Vec::new();
     for message in messages {
@@ -299,8 +346,8 @@ pub fn to_vec<M: Into<Message>>(messages: impl IntoIterator<Item = M>) -> Result
 ///
 /// # Errors
 ///
-/// The writer's own, and [`Error::NotAllowed`] inside an [`io::Error`] for a patch number above 99.
-/// Messages before it are written.
+/// The writer's own, and [`Error::NotAllowed`] inside an [`io::Error`] for a patch number above 99 and
+/// a split number above 49. Messages before it are written.
 ///
 /// ```no_run
 /// use std::fs::File;
@@ -338,19 +385,27 @@ impl From<&Message> for Message {
     }
 }
 
-/// A single patch with its number.
-impl From<(u8, Patch)> for Message {
-    fn from((number, patch): (u8, Patch)) -> Self {
-        Self::Patch { number, patch }
-    }
+/// What is dumped with a number.
+macro_rules! numbered {
+    ($kind:ident $record:ident $what:literal) => {
+        #[doc = $what]
+        impl From<(u8, $kind)> for Message {
+            fn from((number, $record): (u8, $kind)) -> Self {
+                Self::$kind { number, $record }
+            }
+        }
+
+        #[doc = $what]
+        impl From<(&u8, &$kind)> for Message {
+            fn from((&number, &$record): (&u8, &$kind)) -> Self {
+                Self::$kind { number, $record }
+            }
+        }
+    };
 }
 
-/// A single patch with its number.
-impl From<(&u8, &Patch)> for Message {
-    fn from((&number, &patch): (&u8, &Patch)) -> Self {
-        Self::Patch { number, patch }
-    }
-}
+numbered!(Patch patch "A single patch with its number.");
+numbered!(Split split "A split with its number.");
 
 impl From<Master> for Message {
     fn from(master: Master) -> Self {

@@ -1,10 +1,8 @@
 //! The 134 bytes of a patch.
 
-use std::fmt;
-use std::ops::RangeInclusive;
-
 use crate::error::Bare;
 use crate::ffi;
+use crate::format::tested;
 use crate::{BusEdit, Edit, Error, Length, NotAllowed, Parameter, PatchEdit};
 
 /// A patch: 134 packed bytes, every field in range and no bus half used.
@@ -51,23 +49,6 @@ impl Patch {
     /// The place of bus 0's source; three bytes to a bus.
     const FIRST_BUS: usize = 104;
 
-    /// The patch of bytes that the library has tested.
-    pub(crate) const fn tested(bytes: [u8; Self::LENGTH]) -> Self {
-        Self(bytes)
-    }
-
-    /// The packed bytes.
-    #[must_use]
-    pub const fn as_bytes(&self) -> &[u8; Self::LENGTH] {
-        &self.0
-    }
-
-    /// The packed bytes.
-    #[must_use]
-    pub const fn to_bytes(self) -> [u8; Self::LENGTH] {
-        self.0
-    }
-
     /// The name as text: eight characters from space to underscore, those at the end often spaces.
     #[must_use]
     pub fn name(&self) -> String {
@@ -94,7 +75,7 @@ impl Patch {
     /// use matrix1000::Patch;
     ///
     /// let refused = Patch::default().set_name("BASS").unwrap_err();
-    /// assert_eq!(refused.to_string(), "a name has 8 bytes, filled up with spaces, not 4");
+    /// assert_eq!(refused.to_string(), "a patch's name has 8 bytes, filled up with spaces, not 4");
     /// ```
     pub fn set_name(&mut self, name: &str) -> Result<(), Error> {
         let set = ffi::set_name(&mut self.0, name.as_bytes());
@@ -195,23 +176,6 @@ fn in_names(character: char) -> bool {
     })
 }
 
-/// The values that the library takes at a byte place of a patch, from the least to the greatest.
-pub(crate) fn range_at(place: usize) -> RangeInclusive<i16> {
-    if let Some(parameter) = Parameter::at(place) {
-        return parameter.range();
-    }
-    // Names and buses have no parameter to ask for. Every field lies in -64..=127, so a byte that is
-    // taken is, read as signed, its value.
-    let taken = |value: &i8| {
-        let mut bytes = Patch::default().0;
-        bytes[place] = value.cast_unsigned();
-        ffi::test_patch(&bytes).answer != 11
-    };
-    let mut values = (i8::MIN..=i8::MAX).filter(taken).map(i16::from);
-    let least = values.next().expect("a field takes a value");
-    least..=values.next_back().unwrap_or(least)
-}
-
 /// What stands at a byte place of a patch.
 pub(crate) fn field_at(place: usize) -> String {
     if let Some(parameter) = Parameter::at(place) {
@@ -249,41 +213,4 @@ impl Default for Patch {
     }
 }
 
-impl TryFrom<[u8; Patch::LENGTH]> for Patch {
-    type Error = Error;
-
-    fn try_from(bytes: [u8; Patch::LENGTH]) -> Result<Self, Error> {
-        Self::try_from(bytes.as_slice())
-    }
-}
-
-impl TryFrom<&[u8]> for Patch {
-    type Error = Error;
-
-    fn try_from(bytes: &[u8]) -> Result<Self, Error> {
-        let wrong_length = || Error::WrongLength(Length::Patch(bytes.len()));
-        Error::check(ffi::test_patch(bytes), |_| wrong_length())?;
-        bytes.try_into().map(Self).map_err(|_| wrong_length())
-    }
-}
-
-impl AsRef<[u8]> for Patch {
-    fn as_ref(&self) -> &[u8] {
-        &self.0
-    }
-}
-
-impl From<Patch> for [u8; Patch::LENGTH] {
-    fn from(patch: Patch) -> Self {
-        patch.0
-    }
-}
-
-impl fmt::Debug for Patch {
-    fn fmt(&self, f: &mut fmt::Formatter<'_>) -> fmt::Result {
-        f.debug_struct("Patch")
-            .field("name", &self.name())
-            .field("bytes", &self.0)
-            .finish()
-    }
-}
+tested!(Patch);

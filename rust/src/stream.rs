@@ -5,7 +5,7 @@ use std::ops::Range;
 
 use crate::error::Bare;
 use crate::ffi;
-use crate::{BusEdit, Edit, Error, Kind, Length, Master, Message, NotAllowed, Patch};
+use crate::{BusEdit, Edit, Error, Kind, Length, Master, Message, Patch, Split};
 
 /// What is said of one message of a stream without reading its record.
 #[derive(Clone, Copy, Debug, PartialEq, Eq)]
@@ -67,8 +67,8 @@ fn accepted_kind(opcode: usize) -> Kind {
     }
 }
 
-/// What the refusal of a message speaks of: its length without real time, or the byte behind its
-/// opcode.
+/// What the refusal of a message speaks of: its length without real time, the byte behind its opcode,
+/// or a field of what it has.
 fn refusal(message: impl IntoIterator<Item = u8>, found: usize, bare: Bare) -> Error {
     let mut without_real_time = message.into_iter().filter(|byte| *byte < 0xF8);
     // It was not refused for its opcode, which is its fourth byte.
@@ -77,13 +77,11 @@ fn refusal(message: impl IntoIterator<Item = u8>, found: usize, bare: Bare) -> E
     let behind = without_real_time.next().unwrap_or_default();
     match bare {
         Bare::Length => Error::WrongLength(Length::Message { kind, found }),
-        Bare::Number => Error::NotAllowed(match kind {
-            Kind::Patch => NotAllowed::PatchNumber(behind),
-            Kind::Master => NotAllowed::Version(behind),
-            Kind::Edit => NotAllowed::Parameter(behind),
-            Kind::BusEdit => NotAllowed::Bus(behind.into()),
-            Kind::EditBuffer => NotAllowed::Zero(behind),
-        }),
+        Bare::Number => Error::NotAllowed(kind.not_allowed(behind)),
+        Bare::Field { place, value } => {
+            let format = kind.format().expect("no field of a master is tested");
+            format.out_of_range(place, value)
+        }
         Bare::Room => unreachable!("the buffer takes every record"),
         Bare::Names => unreachable!("a message has no second patch"),
         Bare::Stream => unreachable!("a message that ended was taken"),
@@ -183,21 +181,27 @@ impl FusedIterator for Messages<'_> {}
 
 /// The record of an accepted message. All of it was tested in reading; edits are tested again.
 fn record(kind: Kind, bytes: [u8; 4], packed: &[u8; Master::LENGTH]) -> Result<Message, Error> {
-    let patch = || {
-        let (patch, _) = packed.split_first_chunk().expect("a master is longer");
-        Patch::tested(*patch)
-    };
+    let patch = || Patch::tested(first(packed));
     let [number, value, ..] = bytes;
     Ok(match kind {
         Kind::Patch => Message::Patch {
             number,
             patch: patch(),
         },
+        Kind::Split => Message::Split {
+            number,
+            split: Split::tested(first(packed)),
+        },
         Kind::Master => Message::Master(Master::from(*packed)),
         Kind::Edit => Message::Edit(Edit::from_bytes(number, value)?),
         Kind::BusEdit => Message::BusEdit(BusEdit::from_bytes(bytes)?),
         Kind::EditBuffer => Message::EditBuffer(patch()),
     })
+}
+
+/// The first packed bytes, as many as a dump has.
+fn first<const N: usize>(packed: &[u8; Master::LENGTH]) -> [u8; N] {
+    *packed.first_chunk().expect("a master is the longest dump")
 }
 
 /// The first message that starts at `place` or later, if there is one.

@@ -25,6 +25,7 @@ fn streams() -> Vec<Vec<u8>> {
 fn packed(found: Option<&Found>) -> &[u8] {
     match found.map(|found| &found.message) {
         Some(Ok(Message::Master(master))) => master.as_bytes(),
+        Some(Ok(Message::Split { split, .. })) => split.as_bytes(),
         Some(Ok(message)) => message.patch().map_or(&[], |patch| patch.as_bytes()),
         _ => &[],
     }

@@ -5,7 +5,7 @@ use std::io::{self, Write};
 
 use matrix1000::{
     messages, report_at, reports, to_vec, to_writer, Bank, Bus, BusEdit, Edit, Error, Kind, Length,
-    Master, Message, NotAllowed, Parameter, Patch,
+    Master, Message, NotAllowed, Parameter, Patch, Split,
 };
 
 const fn wrong_length(length: Length) -> Error {
@@ -259,8 +259,11 @@ fn every_kind_comes_back_from_its_bytes() {
         amount: -64,
         destination: 32,
     };
+    let mut split = Split::default();
+    split.set_name("SPLIT1").unwrap();
     let all = [
         Message::Patch { number: 42, patch },
+        Message::Split { number: 42, split },
         Message::Master(Master::from(std::array::from_fn(|index| {
             index.to_le_bytes()[0]
         }))),

@@ -4,7 +4,7 @@ use std::fmt::Display;
 
 use matrix1000::{
     messages, reports, Bank, Bus, BusEdit, Edit, Error, Kind, Length, Master, Message, NotAllowed,
-    Parameter, Patch,
+    Parameter, Patch, Split, Zone,
 };
 
 fn says<T>(result: Result<T, impl Display>, sentence: &str) {
@@ -19,7 +19,7 @@ fn of_what_is_handed_in() {
     let mut patch = Patch::default();
     says(
         patch.set_name("BASS"),
-        "a name has 8 bytes, filled up with spaces, not 4",
+        "a patch's name has 8 bytes, filled up with spaces, not 4",
     );
     says(
         patch.set_name("BASS a  "),
@@ -69,6 +69,47 @@ fn of_what_is_handed_in() {
     says(
         Edit::from_bytes(0, 64),
         "192 is out of range for DCO 1 Initial Frequency, byte 9 of the patch: 0 to 63",
+    );
+}
+
+#[test]
+fn of_splits_that_are_handed_in() {
+    let mut split = Split::default();
+    says(
+        split.set_name("BASS"),
+        "a split's name has 6 bytes, filled up with spaces, not 4",
+    );
+    says(
+        split.set_name("BASS a"),
+        "'a' is not allowed in a name: space to underscore, so no small letters",
+    );
+    says(
+        Message::Split { number: 50, split }.to_vec(),
+        "split number 50 is not allowed: 0 to 49",
+    );
+    says(
+        Split::try_from(&[0; 17][..]),
+        "a split has 18 bytes, not 17",
+    );
+    says(
+        Message::Split { number: 0, split }.write_to_slice(&mut [0; 42]),
+        "the output has 42 bytes, and 43 are needed",
+    );
+    says(
+        split.set_upper_patch(128),
+        "128 is out of range for Upper Patch Number, byte 9 of the split: 0 to 127",
+    );
+    let zone = Zone {
+        transpose: -33,
+        ..Zone::default()
+    };
+    says(
+        split.set_right_zone(zone),
+        "-33 is out of range for Right Zone Transpose, byte 14 of the split: -32 to 31",
+    );
+    says(
+        split.set_balance(32),
+        "32 is out of range for Left/Right Balance, byte 16 of the split: -32 to 31",
     );
 }
 
@@ -131,6 +172,78 @@ fn of_every_byte_of_a_patch() {
     );
 }
 
+#[test]
+fn of_every_byte_of_a_split() {
+    let refused = |place| {
+        let mut bytes = Split::default().to_bytes();
+        bytes[place] = 0x80;
+        Split::try_from(bytes)
+    };
+    let fields = [
+        (
+            0,
+            "128 is out of range for character 0 of the name",
+            "0 to 63",
+        ),
+        (
+            5,
+            "128 is out of range for character 5 of the name",
+            "0 to 63",
+        ),
+        (
+            6,
+            "128 is out of range for a field that is not used",
+            "0 to 63",
+        ),
+        (
+            7,
+            "128 is out of range for a field that is not used",
+            "0 to 63",
+        ),
+        (8, "128 is out of range for Lower Patch Number", "0 to 127"),
+        (10, "128 is out of range for Left Zone Limit", "0 to 127"),
+        (
+            11,
+            "-128 is out of range for Left Zone Transpose",
+            "-32 to 31",
+        ),
+        (
+            12,
+            "128 is out of range for Left Zone MIDI Out Enable",
+            "0 to 1",
+        ),
+        (13, "128 is out of range for Right Zone Limit", "0 to 127"),
+        (
+            15,
+            "128 is out of range for Right Zone MIDI Out Enable",
+            "0 to 1",
+        ),
+        (
+            16,
+            "-128 is out of range for Left/Right Balance",
+            "-32 to 31",
+        ),
+        (17, "128 is out of range for Voice Configuration", "0 to 3"),
+    ];
+    for (place, what, range) in fields {
+        let sentence = format!("{what}, byte {place} of the split: {range}");
+        says(refused(place), &sentence);
+    }
+    for place in 0..Split::LENGTH {
+        let error = refused(place).unwrap_err();
+        assert_eq!((error.number(), error.detail()), (11, place));
+    }
+    // Nothing more is said of a place that no split has, though a patch has it.
+    let mut error = refused(0).unwrap_err();
+    if let Error::OutOfRange { place, .. } = &mut error {
+        *place = 18;
+    }
+    assert_eq!(
+        error.to_string(),
+        "128 is out of range for byte 18 of the split"
+    );
+}
+
 /// A message with this behind F0H 10H 06H.
 fn message(behind: &[u8]) -> Vec<u8> {
     [&[0xF0, 0x10, 0xFE, 0x06], behind, &[0xF7]].concat()
@@ -148,6 +261,11 @@ fn of_messages() {
             zeros(0x01, 100, 275),
             Error::NotAllowed(NotAllowed::PatchNumber(100)),
             "patch number 100 is not allowed: 0 to 99",
+        ),
+        (
+            zeros(0x02, 50, 43),
+            Error::NotAllowed(NotAllowed::SplitNumber(50)),
+            "split number 50 is not allowed: 0 to 49",
         ),
         (
             zeros(0x03, 2, 351),
@@ -176,6 +294,14 @@ fn of_messages() {
                 found: 274,
             }),
             "a single patch message has 275 bytes, not 274",
+        ),
+        (
+            zeros(0x02, 0, 41),
+            Error::WrongLength(Length::Message {
+                kind: Kind::Split,
+                found: 41,
+            }),
+            "a split message has 43 bytes, not 41",
         ),
         (
             message(&[0x06]),

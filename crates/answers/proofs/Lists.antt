@@ -78,3 +78,9 @@ module _ {ℓ} {A : Type ℓ} (P : A → Type 0) where
 pub all-weaken {ℓ} : {A : Type ℓ} (P Q : A → Type 0) → ((x : A) → P x → Q x) → (s : List A) → All P s → All Q s
 all-weaken P Q f [] a = tt
 all-weaken P Q f (x ∷ s) a = (f x (a .0), all-weaken P Q f s (a .1))
+
+-- One of them replaced.
+pub all-set : (P : ℕ → Type 0) (l : List ℕ) (j x : ℕ) → All P l → P x → All P (set l j x)
+all-set P [] j x a h = tt
+all-set P (y ∷ l) zero x a h = (h, a .1)
+all-set P (y ∷ l) (suc j) x a h = (a .0, all-set P l j x (a .1) h)

@@ -3,6 +3,7 @@
 use mathlib.Core.Path.{_≡_, refl, ap, sym, _∙_, subst}
 use mathlib.Core.Bool.{Bool, true, false, not}
 use mathlib.Core.List.{List, [], _∷_, _++_, append-nil}
+use mathlib.Core.Logic.{_⊎_, ⊎-elim}
 use mathlib.Core.Option.{Option, none, some}
 use Prim.Native.Nat.{ℕ, _≤_}
 use native.Mathlib.Omega.{arith}
@@ -129,6 +130,21 @@ first-number P (r ∷ rows) n b p o a e = go (heard r) (first-number P rows n b 
         let same : refused x ≡ refused o = rw q at e in
         let said : says r ≡ some o = cc in
         subst P (said-number r o said) (a .0)
+
+-- A row that does not answer n: it says nothing, or has another number.
+abbrev pub Without : ℕ → Row → Type 0
+Without n r = (says r ≡ none) ⊎ (numberOf r ≡ n → ⊥)
+
+-- Rows none of which answers n give another answer.
+pub never-answered : (n : ℕ) → (0 ≡ n → ⊥) → (rows : List Row) → All (Without n) rows → (o : ℕ) (b p : List ℕ) → answerOf (first rows (done o b p)) ≡ n → ⊥
+never-answered n z [] a o b p e = z e
+never-answered n z (r ∷ rows) a o b p e = go (heard r) (never-answered n z rows (a .1) o b p)
+  where
+    go : Heard r → (answerOf (first rows (done o b p)) ≡ n → ⊥) → ⊥
+    go (nothing q) i = i (rw q at e)
+    go (something x q) i =
+        let given : x .answer ≡ n = rw q at e in
+        ⊎-elim (λ (silent : says r ≡ none). let f : _≡_ {A = ℕ} 0 1 = cc in omega arith) (λ (other : numberOf r ≡ n → ⊥). other (said-number r x q ∙ given)) (a .0)
 
 -- The numbers of refusals: 0 is not among them, nor is 14.
 abbrev pub IsRefusal : ℕ → Type 0

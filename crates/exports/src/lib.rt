@@ -19,12 +19,13 @@ ghost use mathlib.Core.List.{[], _∷_};
 ghost use Rattle.answers.specs.Effect.{Gives, tested};
 ghost use Rattle.edits.specs.Edits.{applying, applyingBus};
 ghost use Rattle.messages.specs.declared.kinds.Kind.the-variants.{Dump as ofDump, Short as ofShort};
-ghost use Rattle.messages.specs.Kinds.{singlePatch, masterParameters, editBuffer, remoteEdit, busEdit};
+ghost use Rattle.messages.specs.Kinds.{singlePatch, splitPatch, masterParameters, editBuffer, remoteEdit, busEdit};
 ghost use Rattle.fields.specs.code.Columns.{orNone};
 ghost use Rattle.fields.specs.Fields.{placeOf, parameterOf};
 ghost use Rattle.fields.specs.Parameters.{ranging};
 ghost use Rattle.names.specs.Names.{naming, showing};
 ghost use Rattle.patch.specs.Patch.{patchRows, holding};
+ghost use Rattle.splits.specs.Splits.{splitRows};
 ghost use Rattle.edit_lists.specs.Plan.{planning};
 ghost use Rattle.edit_lists.specs.Check.{checking};
 ghost use Rattle.cable.specs.Cable.{freshRecord, feeding, ending, Leaves};
@@ -94,6 +95,19 @@ pub extern "C" fn matrix_test_patch(p: &[u8]) -> Outcome
 {
     // Field by field, so that the answer goes by a register and not through memory; so below.
     let tested = patch::test(p);
+    Outcome {
+        answer: tested.answer,
+        value: tested.value,
+        detail: tested.detail,
+    }
+}
+
+// The test of a split.
+#[no_mangle]
+pub extern "C" fn matrix_test_split(p: &[u8]) -> Outcome
+    ensures { λ r. ⌜ r ≡ tested (splitRows (now (p .entry))) ⌝ }
+{
+    let tested = splits::test(p);
     Outcome {
         answer: tested.answer,
         value: tested.value,
@@ -193,6 +207,14 @@ pub extern "C" fn matrix_write_patch(number: u8, p: &[u8], out: &mut [u8]) -> Ou
     ensures { λ r. ⌜ Gives (writing (ofDump singlePatch) (number ∷ []) (now (p .entry)) (now (out .entry))) r (now (out .exit)) ⌝ }
 {
     writing::write_patch(number, p, out)
+}
+
+// Writes a numbered split.
+#[no_mangle]
+pub extern "C" fn matrix_write_split(number: u8, p: &[u8], out: &mut [u8]) -> Outcome
+    ensures { λ r. ⌜ Gives (writing (ofDump splitPatch) (number ∷ []) (now (p .entry)) (now (out .entry))) r (now (out .exit)) ⌝ }
+{
+    writing::write_split(number, p, out)
 }
 
 // Writes a patch to the edit buffer.

@@ -6,7 +6,7 @@ use Rattle.fields.specs.promises.Rule.{Rule}
 use Rattle.fields.proofs.Rules.{rows, fields-rule, apart, parameter-number, parameter-known, number-place, place-then-parameter, parameter-then-place}
 use Rattle.fields.proofs.Rules.{unused-nowhere, name-unnumbered, bus-unnumbered}
 use Rattle.fields.proofs.Places.{place-past}
-use Rattle.fields.proofs.Signs.{amount-goes, detune-goes, name-goes, from-zero, below-zero, without-sign, ranged, reached}
+use Rattle.fields.proofs.Signs.{amount-goes, detune-goes, name-goes, field-signs, ranged, reached}
 
 pub rule : Rule
 unfolding fields valueOf valueBy
@@ -27,9 +27,7 @@ rule = record {
   bus-source = each-goes fields _ _ 104 3 10 tt;
   bus-amount = each-goes fields _ _ 105 3 10 tt;
   bus-destination = each-goes fields _ _ 106 3 10 tt;
-  from-zero = from-zero;
-  below-zero = below-zero;
-  without-sign = without-sign;
+  signs = field-signs;
   ranged = ranged;
   reached = reached;
   apart = apart;

@@ -9,10 +9,10 @@ use lib.Dec.{T, eqb, leb, ltb, eqb→eq, leb→le, ltb→lt, T-not}
 use lib.ListN.{length, List·getD-eq-default}
 use borrow.Author.Tests.{lt-ltb, le-ltb, le-leb, lt-leb, ne-eqb, ltb-true, ltb-false, leb-true, leb-false}
 use Rattle.ranges.specs.Ranges.{between, inRow}
-use Rattle.ranges.specs.promises.Tables.{TableRule}
+use Rattle.ranges.specs.promises.Tables.{TableRule, Apart}
 use Rattle.ranges.proofs.Below.{parts, holds, each, at}
-use Rattle.ranges.proofs.Between.{Lies, plain, positive, negative, lies, narrow-apart}
-use Rattle.ranges.proofs.Runs.{narrow-row}
+use Rattle.ranges.proofs.Between.{Lies, plain, positive, negative, lies}
+use Rattle.ranges.proofs.Runs.{narrow-row, rows-apart}
 use Rattle.ranges.proofs.Tables.{right, table-rule}
 use Rattle.fields.specs.Fields.{fields, parameterAt, leastAt, greatestAt, inRange, searchFrom, placeOf, parameterOf}
 use Rattle.fields.specs.promises.Rule.{unused}
@@ -167,14 +167,13 @@ parameter-then-place k n e = go (leb 8 k) (ltb k 104) refl refl
     go false u q r = let f = name-unnumbered k (leb-false 8 k q) in let z : _≡_ {A = ℕ} 0 1 = cc in absurd (omega arith)
 
 -- Every range spans at most 128 bytes.
-pub all-narrow : T (each (narrow-row fields) (length fields))
+all-narrow : T (each (narrow-row fields) (length fields))
 unfolding fields
 all-narrow = tt
 
 -- No place accepts both a byte and the one 128 higher.
-pub apart : (k b : ℕ) → k < 134 → inRange k b ≡ true → inRange k (b + 128) ≡ true → ⊥
-unfolding inRow
-apart k b h e f = narrow-apart (leastAt k) (greatestAt k) b (at (narrow-row fields) (length fields) all-narrow k (omega (arith, rows))) e f
+pub apart : Apart fields
+apart = rows-apart fields all-narrow
 
 abbrev name-right : ℕ → Bool
 name-right k = eqb (leastAt k) 0 && eqb (greatestAt k) 63

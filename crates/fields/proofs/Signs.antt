@@ -1,7 +1,7 @@
 -- The values of the signed amounts, of detune and of the name: one test of the rows of each. Which fields have a sign, and what every byte is with
 -- and without one; what is told of a parameter's range.
 use mathlib.Core.Path.{_≡_, refl, _∙_}
-use mathlib.Core.Bool.{Bool, true, false, not, _&&_}
+use mathlib.Core.Bool.{Bool, true, _&&_}
 use mathlib.Core.Option.{some}
 use Prim.Native.Nat.{ℕ, _+_, _-_, _*_, _≤_, _<_}
 use native.Mathlib.Omega.{arith}
@@ -9,27 +9,14 @@ use lib.Dec.{T}
 use lib.IntN.{ℤ, pos, negsuc}
 use lib.ListN.{length}
 use lib.Signed.{leZ}
-use borrow.Author.Tests.{lt-ltb, le-ltb, le-leb}
-use Rattle.ranges.specs.Ranges.{signedIn}
+use borrow.Author.Tests.{le-leb}
 use Rattle.ranges.specs.Values.{plus, minus, valueOf, valueBy, fromTo}
-use Rattle.ranges.specs.promises.Tables.{Goes}
-use Rattle.ranges.proofs.Below.{each, at}
-use Rattle.ranges.proofs.Tables.{each-goes}
+use Rattle.ranges.specs.promises.Tables.{Signs, Goes}
+use Rattle.ranges.proofs.Tables.{signs-right, signs, each-goes}
 use Rattle.fields.specs.Fields.{fields, leastAt, greatestAt, inRange, valueAt, placeOf}
 use Rattle.fields.specs.Parameters.{ranging}
 use Rattle.fields.specs.promises.Rule.{hasSign, Reached}
 use Rattle.fields.proofs.Rules.{rows, fields-rule, found-place}
-
--- Two tests that agree.
-abbrev agree : Bool → Bool → Bool
-agree true b = b
-agree false b = not b
-
-agreed : (a b : Bool) → T (agree a b) → a ≡ b
-agreed true true t = refl
-agreed true false t = absurd t
-agreed false true t = absurd t
-agreed false false t = refl
 
 both-true : (a b : Bool) → a ≡ true → b ≡ true → (a && b) ≡ true
 both-true a b p q = rw (p, q)
@@ -53,26 +40,12 @@ unfolding fields valueOf valueBy
 name-goes k h = let here : 0 + 1 * k ≡ k = omega arith in rw here at (each-goes fields (plus 0) (plus 63) 0 1 8 tt k h)
 
 -- One test of all rows: those that have a sign are the ones whose least byte is above the greatest.
-all-signs : T (each (λ k. agree (signedIn fields k) (hasSign k)) 134)
+all-signs : T (signs-right fields hasSign)
 unfolding fields
 all-signs = tt
 
-has-sign : (k : ℕ) → k < 134 → signedIn fields k ≡ hasSign k
-has-sign k h = agreed (signedIn fields k) (hasSign k) (at (λ k. agree (signedIn fields k) (hasSign k)) 134 all-signs k h)
-
-pub from-zero : (k n : ℕ) → k < 134 → hasSign k ≡ true → n < 128 → valueAt k n ≡ plus n
-unfolding valueBy valueOf
-from-zero k n h e l = rw (has-sign k h, e, lt-ltb n 0x80 l)
-
-pub below-zero : (k n : ℕ) → k < 134 → hasSign k ≡ true → 1 ≤ n → n ≤ 128 → valueAt k (256 - n) ≡ minus n
-unfolding valueBy valueOf
-below-zero k n h e l u =
-    let size : 256 - (256 - n) ≡ n = omega arith in
-    rw (has-sign k h, e, le-ltb (256 - n) 0x80 (omega arith), size)
-
-pub without-sign : (k b : ℕ) → k < 134 → hasSign k ≡ false → valueAt k b ≡ plus b
-unfolding valueBy
-without-sign k b h e = rw (has-sign k h, e)
+pub field-signs : Signs fields hasSign
+field-signs = signs fields hasSign all-signs
 
 -- A parameter's range by its place.
 pub ranged : (n k b : ℕ) → placeOf n ≡ some k → b < 256 → let r = ranging n in inRange k b ≡ fromTo (r .least) (r .greatest) (valueAt k b)

@@ -1,7 +1,7 @@
 -- What is heard of a message by its span: how long its body is, the real time in it, and how it ends.
 use mathlib.Core.Path.{_≡_, refl, sym, ap, _∙_}
 use mathlib.Core.List.{List}
-use Prim.Native.Nat.{ℕ}
+use Prim.Native.Nat.{ℕ, _≤_}
 use native.Mathlib.Omega.{arith}
 use lib.ListN.{length, take, drop}
 use lib.Seq.{length-take-le}
@@ -31,8 +31,11 @@ module _ (t : List ℕ) (s : Span) (e : s ≡ spanOf t) where
   span-body : take (s .length) t ≡ body t
   span-body = rw span-length (body-take t)
 
+  pub span-within : s .length ≤ length t
+  span-within = omega (arith, span-length, body-within t)
+
   pub span-taken : s .length ≡ length (take (s .length) t)
-  span-taken = sym (length-take-le (s .length) t (omega (arith, span-length, body-within t)))
+  span-taken = sym (length-take-le (s .length) t span-within)
 
   pub span-noise : s .noise ≡ realTimeIn (take (s .length) t)
   unfolding spanOf

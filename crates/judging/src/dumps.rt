@@ -76,6 +76,7 @@ pub fn test_packed(packed: Packed, bytes: &[u8]) -> Outcome
 {
     match packed {
         Packed::Patch => patch::test(bytes),
+        Packed::Split => splits::test(bytes),
         Packed::AnyBytes(count) => ranges::test(count, &[], bytes),
     }
 }

@@ -21,7 +21,8 @@ use messages::kinds::MAKER;
 use messages::kinds::kind_of;
 use messages::kinds::packed_size;
 ghost use mathlib.Core.Path.{_≡_};
-ghost use lib.ListN.{length};
+ghost use Prim.Native.Nat.{_≤_};
+ghost use lib.ListN.{length, take};
 ghost use Rattle.answers.specs.Effect.{Gives};
 ghost use Rattle.answers.specs.Table.{outcome};
 ghost use Rattle.streams.specs.Bytes.{withoutRealTime, realTimeIn, framed};
@@ -114,39 +115,40 @@ fn judge_body(body: &[u8], noise: usize) -> Judged
     judge_content(body, count_content(body, noise))
 }
 
-// The same with its packed bytes at the start of a lent buffer: as judged, then 13. Refused, the buffer keeps every byte. The callers below
-// have counted its content.
-fn record_content(body: &[u8], count: usize, buffer: &mut [u8]) -> Judged
-    requires { ⌜ count ≡ length (contentBy count (now body)) ⌝ }
-    ensures { λ r. ⌜ Gives (recordedAs (judge (framed (contentBy count (now (body .entry))))) (now (buffer .entry))) r (now (buffer .exit)) ⌝ }
+// The same of the first n bytes of `rest`, with its packed bytes at the start of a lent buffer: as judged, then 13. Refused, the buffer keeps
+// every byte. The callers below have counted its content.
+fn record_content(rest: &[u8], n: usize, count: usize, buffer: &mut [u8]) -> Judged
+    requires { ⌜ (n ≤ length (now rest)) × (count ≡ length (contentBy count (take n (now rest)))) ⌝ }
+    ensures { λ r. ⌜ Gives (recordedAs (judge (framed (contentBy count (take n (now (rest .entry)))))) (now (buffer .entry))) r (now (buffer .exit)) ⌝ }
 {
-    let j = judge_content(body, count);
+    let j = judge_content(&rest[..n], count);
     if j.outcome.answer != DONE {
         return j;
     }
-    let size = packed_size(kind_of(byte_at(body, count, 2)));
+    let size = packed_size(kind_of(byte_at(&rest[..n], count, 2)));
     if buffer.len() < size {
         return refused_by(NO_ROOM);
     }
     if 0 < size {
-        pack_data(body, count, &mut buffer[..size]);
+        pack_data(&rest[..n], count, &mut buffer[..size]);
     }
     j
 }
 
-// The same from what stands between F0H and F7H. The caller below has counted the real time there.
-fn record_body(body: &[u8], noise: usize, buffer: &mut [u8]) -> Judged
-    requires { ⌜ noise ≡ realTimeIn (now body) ⌝ }
-    ensures { λ r. ⌜ Gives (recordedAs (judge (framed (withoutRealTime (now (body .entry))))) (now (buffer .entry))) r (now (buffer .exit)) ⌝ }
+// The same from what stands between F0H and F7H, the first n bytes of `rest`. The caller below has counted the real time there.
+fn record_body(rest: &[u8], n: usize, noise: usize, buffer: &mut [u8]) -> Judged
+    requires { ⌜ (n ≤ length (now rest)) × (noise ≡ realTimeIn (take n (now rest))) ⌝ }
+    ensures { λ r. ⌜ Gives (recordedAs (judge (framed (withoutRealTime (take n (now (rest .entry)))))) (now (buffer .entry))) r (now (buffer .exit)) ⌝ }
 {
-    record_content(body, count_content(body, noise), buffer)
+    record_content(rest, n, count_content(&rest[..n], noise), buffer)
 }
 
 // The same from a content that was kept: what stood between F0H and F7H, no real time among it.
 pub fn record_kept(content: &[u8], buffer: &mut [u8]) -> Judged
     ensures { λ r. ⌜ Gives (recordedAs (judge (framed (now (content .entry)))) (now (buffer .entry))) r (now (buffer .exit)) ⌝ }
 {
-    record_content(content, content.len(), buffer)
+    let count = content.len();
+    record_content(content, count, count, buffer)
 }
 
 // The message whose F0H stands just before `rest`: how far it runs, and what it comes to, by document 01's table from 2 on.
@@ -181,6 +183,6 @@ pub fn record_from(rest: &[u8], buffer: &mut [u8]) -> Heard
     let n = span.length;
     Heard {
         span,
-        judged: record_body(&rest[..n], span.noise, buffer),
+        judged: record_body(rest, n, span.noise, buffer),
     }
 }

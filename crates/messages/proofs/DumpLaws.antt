@@ -4,19 +4,21 @@ use mathlib.Core.Path.{_≡_, refl, sym, _∙_}
 use mathlib.Core.Bool.{false, not}
 use mathlib.Core.List.{List, [], _∷_, _++_, append-assoc}
 use Prim.Native.Nat.{ℕ, _+_, _*_, _<_}
+use native.Mathlib.Nat.{zero-add}
 use native.Mathlib.Omega.{arith}
 use lib.Dec.{eqb}
 use lib.ListN.{length, length-append}
 use lib.Seq.{take-at, getD-at, getD-drop}
 use borrow.Author.Tests.{eq-eqb, ne-eqb}
+use Rattle.answers.specs.declared.Outcome.{Outcome}
 use Rattle.answers.specs.Lists.{All}
 use Rattle.answers.specs.Table.{row, Verdict, done, refused, first, outcome, answerOf}
 use Rattle.answers.proofs.Rows.{Refusals, first-passed, zero-silent, row-silent, row-at-silent, row-equal}
 use Rattle.answers.specs.promises.Decides.{Silent}
 use Rattle.nibbles.specs.Nibbles.{nibbles, pack, sum, firstWide}
-use Rattle.nibbles.proofs.Laws.{length-nibbles, pack-nibbles, nibbles-narrow, not-wide, wide-none}
-use Rattle.messages.specs.Kinds.{Dump, ofDump, Filed, sizeOf}
-use Rattle.messages.specs.Judge.{dataOf, packedOf, sumOf, dataRows, misnumbered, numberIn, packedRows, dumpRows, judge}
+use Rattle.nibbles.proofs.Laws.{length-nibbles, pack-nibbles, nibbles-narrow, not-wide, wide-none, wide-behind}
+use Rattle.messages.specs.Kinds.{Packed, Dump, ofDump, Filed, sizeOf}
+use Rattle.messages.specs.Judge.{dataOf, packedOf, sumOf, dataRows, misnumbered, numberIn, packedRows, sentRows, dumpRows, judge}
 use Rattle.messages.specs.Layout.{messageOf, dump}
 use Rattle.messages.proofs.Filed.{filed-sized}
 use Rattle.messages.proofs.Numbers.{packed-refusals}
@@ -45,6 +47,23 @@ dumpRecord k n p = done (k .opcode) (numberIn (k .behind) n) p
 pub dump-refusals : (k : Dump) (n : ℕ) (d : List ℕ) (s : ℕ) → Refusals (dumpRows k n d s)
 unfolding dataRows
 dump-refusals k n d s = (omega arith, (omega arith, (omega arith, packed-refusals (k .packed) (pack d))))
+
+-- The data bytes d and the sum s behind them, by what they pack: refused by the first byte above 15, by the sum, or left to the packed bytes.
+module _ (q : Packed) where
+  abbrev pub RefusedBy : List ℕ → ℕ → Outcome → Type 0
+  RefusedBy d s o = (v : Verdict) → first (sentRows q d s) v ≡ refused o
+
+  pub too-wide : (u : List ℕ) (x : ℕ) (w : List ℕ) (s : ℕ) → All (λ b. b < 16) u → 15 < x → RefusedBy (u ++ x ∷ w) s (outcome 9 (length u))
+  unfolding dataRows
+  too-wide u x w s a h v = rw (wide-behind 0 u x w a h, zero-add (length u))
+
+  pub wrong-sum : (d : List ℕ) (s : ℕ) → All (λ b. b < 16) d → (s ≡ sum (pack d) → ⊥) → RefusedBy d s (outcome 10 0)
+  unfolding dataRows
+  wrong-sum d s a n v = rw (not-wide 0 d a, ne-eqb s (sum (pack d)) n)
+
+  pub right-sum : (d : List ℕ) (s : ℕ) → All (λ b. b < 16) d → s ≡ sum (pack d) → (v : Verdict) → first (sentRows q d s) v ≡ first (packedRows q (pack d)) v
+  unfolding dataRows
+  right-sum d s a e v = rw (not-wide 0 d a, eq-eqb s (sum (pack d)) e)
 
 -- Nibbles for data bytes, their sum, and packed bytes that pass the tests.
 pub record Passed (k : Dump) (n : ℕ) (d : List ℕ) (s : ℕ) : Type 0 where

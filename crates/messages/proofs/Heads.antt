@@ -1,7 +1,7 @@
 -- Messages that damage makes of a dump's bytes and that are refused by their first ones: the end of the dump behind an F0H, and a dump with its opcode
 -- and the byte behind it exchanged.
 use mathlib.Core.Path.{_≡_, sym, _∙_, subst}
-use mathlib.Core.Bool.{Bool, true, false, not, _||_}
+use mathlib.Core.Bool.{Bool, true, false, not, _&&_, _||_}
 use mathlib.Core.List.{List, [], _∷_, _++_, tail-eq-of-cons-eq}
 use Prim.Native.Nat.{ℕ, _+_, _<_}
 use native.Mathlib.Omega.{arith}
@@ -14,6 +14,7 @@ use Rattle.answers.specs.promises.Decides.{Silent}
 use Rattle.answers.proofs.Rows.{row-silent}
 use Rattle.streams.specs.Bytes.{framed}
 use Rattle.nibbles.proofs.Laws.{no-tail}
+use Rattle.ranges.proofs.Below.{parts}
 use Rattle.messages.specs.Kinds.{Dump, Kind, ofDump, ofShort, unknown, kinds}
 use Rattle.messages.specs.Kinds.{Filed, kindOf, opcodeOf, lengthOf, isUnknown}
 use Rattle.messages.specs.Judge.{misnumbered, kindRows, judge}
@@ -38,10 +39,18 @@ apart (ofDump k) unknown = true
 apart (ofShort k) m = true
 apart unknown m = true
 
+abbrev apart-from : Kind → List Kind → Bool
+apart-from k [] = true
+apart-from k (m ∷ ms) = apart k m && apart-from k ms
+
+each-apart : (k : Kind) (ms : List Kind) → T (apart-from k ms) → All (λ m. T (apart k m)) ms
+each-apart k [] t = tt
+each-apart k (m ∷ ms) t = let q = parts (apart k m) (apart-from k ms) t in (q .0, each-apart k ms (q .1))
+
 all-apart : (k : Dump) → Filed (ofDump k) → (o : ℕ) → T (apart (ofDump k) (kindOf o))
 all-apart k f =
-    let each-two = every-kind (λ a. All (λ m. T (apart a m)) kinds) (omega arith) (omega arith) (k .opcode) in
-    every-kind (λ m. T (apart (ofDump k) m)) tt (subst (λ (a : Kind). All (λ m. T (apart a m)) kinds) f each-two)
+    let from-all = every-kind (λ a. T (apart-from a kinds)) tt (omega arith) (k .opcode) in
+    every-kind (λ m. T (apart (ofDump k) m)) tt (each-apart (ofDump k) kinds (subst (λ (a : Kind). T (apart-from a kinds)) f from-all))
 
 -- So a dump with its opcode and the byte behind it exchanged is not accepted.
 pub opcode-exchanged : (k : Dump) → Filed (ofDump k) → (n : ℕ) → misnumbered (k .behind) n ≡ false → (k .opcode ≡ n → ⊥)

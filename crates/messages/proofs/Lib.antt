@@ -1,11 +1,13 @@
 pub mod Filed
 pub mod Content
 pub mod Numbers
+pub mod Never
 pub mod DumpLaws
+pub mod Described
 pub mod Heads
 pub mod Neighbours
-pub mod OneNibble
 pub mod Accepted
 pub mod Long
 pub mod Written
 pub mod AsWritten
+pub mod OneNibble

@@ -7,7 +7,7 @@ use mathlib.Core.List.{List, [], _∷_, _++_, append-assoc}
 use mathlib.Core.Logic.{_⊎_, inl, inr, ⊎-elim}
 use mathlib.Core.Option.{none, some}
 use Prim.Native.Nat.{ℕ, suc, _+_, _*_, _/_, _%_, _<_}
-use native.Mathlib.Nat.{zero-add, le-of-suc-le-suc}
+use native.Mathlib.Nat.{le-of-suc-le-suc}
 use native.Mathlib.Omega.{arith}
 use lib.Dec.{eqb, ltb}
 use lib.IntN.{ℤ}
@@ -19,7 +19,7 @@ use Rattle.answers.specs.Lists.{All}
 use Rattle.answers.specs.Table.{row, says, outcome, outcomeAt, found, Verdict, refused, unless, first, answerOf}
 use Rattle.answers.proofs.Lists.{all-append, all-left, all-right}
 use Rattle.nibbles.specs.Nibbles.{nibbles, pack, total, sum}
-use Rattle.nibbles.proofs.Laws.{length-nibbles, nibbles-narrow, pack-nibbles, pack-pair, pack-across, not-wide, wide-behind}
+use Rattle.nibbles.proofs.Laws.{length-nibbles, nibbles-narrow, pack-nibbles, pack-pair, pack-across}
 use Rattle.nibbles.proofs.Laws.{sum-around, missed, sums-exchanged, Position, at-low, at-high, at-sum, position}
 use Rattle.nibbles.proofs.Laws.{Neighbours, within, across, at-end, neighbours}
 use Rattle.ranges.proofs.Between.{MovedBy}
@@ -28,27 +28,17 @@ use Rattle.fields.specs.Fields.{fields, valueAt}
 use Rattle.patch.specs.Patch.{firstOut}
 use Rattle.patch.proofs.Runs.{fields-moved}
 use Rattle.messages.specs.Kinds.{aPatch, Dump, ofDump, Filed, sizeOf}
-use Rattle.messages.specs.Judge.{dataRows, sentRows, misnumbered, judge}
+use Rattle.messages.specs.Judge.{sentRows, misnumbered, judge}
 use Rattle.messages.specs.Layout.{messageOf}
 use Rattle.messages.specs.promises.Neighbours.{nibblesRefusal, replacedRefusal, exchangedRefusal}
 use Rattle.messages.proofs.Numbers.{refused-number}
-use Rattle.messages.proofs.DumpLaws.{dump-tested}
+use Rattle.messages.proofs.DumpLaws.{RefusedBy as RefusedAs, too-wide, wrong-sum, right-sum, dump-tested}
 
--- The data bytes d and the sum s behind them are refused by o.
 abbrev RefusedBy : List ℕ → ℕ → Outcome → Type 0
-RefusedBy d s o = (v : Verdict) → first (sentRows aPatch d s) v ≡ refused o
-
-too-wide : (u : List ℕ) (x : ℕ) (w : List ℕ) (s : ℕ) → All (λ b. b < 16) u → 15 < x → RefusedBy (u ++ x ∷ w) s (outcome 9 (length u))
-unfolding dataRows
-too-wide u x w s a h v = rw (wide-behind 0 u x w a h, zero-add (length u))
-
-wrong-sum : (d : List ℕ) (s : ℕ) → All (λ b. b < 16) d → (s ≡ sum (pack d) → ⊥) → RefusedBy d s (outcome 10 0)
-unfolding dataRows
-wrong-sum d s a n v = rw (not-wide 0 d a, ne-eqb s (sum (pack d)) n)
+RefusedBy = RefusedAs aPatch
 
 out-of-range : (d : List ℕ) (s k : ℕ) (w : ℤ) → All (λ b. b < 16) d → s ≡ sum (pack d) → firstOut (pack d) ≡ some (found k w) → RefusedBy d s (outcomeAt 11 k w)
-unfolding dataRows
-out-of-range d s k w a e f v = rw (not-wide 0 d a, eq-eqb s (sum (pack d)) e, f)
+out-of-range d s k w a e f v = right-sum aPatch d s a e v ∙ rw f
 
 -- The low nibble l and the high one h, of the packed byte k, now l′ and h′: beside them the sum is t.
 nibbles-refused : (d : List ℕ) (s t k low l h l′ h′ : ℕ) → All (λ b. b < 16) d → l < 16 → h < 16 → l′ < 16 → h′ < 16
@@ -58,7 +48,7 @@ nibbles-refused d s t k low l h l′ h′ a n₁ n₂ n₃ n₄ was is other out
   where
     go : (x y z : Bool) → eqb l′ l ≡ x → eqb h′ (h + 8) ≡ y → eqb h (h′ + 8) ≡ z
         → first (sentRows aPatch d s) v ≡ refused (cond (x && (y || z)) (outcomeAt 11 k (valueAt k (low + 16 * h′))) (outcome 10 0))
-    go false y z q₁ q₂ q₃ = wrong-sum d s a (λ e. eqb-false l′ l q₁ (missed t l h l′ h′ n₁ n₂ n₃ n₄ (sym was ∙ e ∙ is) .low)) v
+    go false y z q₁ q₂ q₃ = wrong-sum aPatch d s a (λ e. eqb-false l′ l q₁ (missed t l h l′ h′ n₁ n₂ n₃ n₄ (sym was ∙ e ∙ is) .low)) v
     go true true z q₁ q₂ q₃ =
         let same = eqb-true l′ l q₁ in let up = eqb-true h′ (h + 8) q₂ in out-of-range d s k _ a (omega arith) (out same (inl up)) v
     go true false true q₁ q₂ q₃ =
@@ -67,7 +57,7 @@ nibbles-refused d s t k low l h l′ h′ a n₁ n₂ n₃ n₄ was is other out
         let same = eqb-true l′ l q₁ in
         let not-up = eqb-false h′ (h + 8) q₂ in
         let not-down = eqb-false h (h′ + 8) q₃ in
-        wrong-sum d s a (λ e. ⊎-elim (λ z. other (same, z)) (λ (m : MovedBy 8 h h′). ⊎-elim not-up not-down m)
+        wrong-sum aPatch d s a (λ e. ⊎-elim (λ z. other (same, z)) (λ (m : MovedBy 8 h h′). ⊎-elim not-up not-down m)
         (missed t l h l′ h′ n₁ n₂ n₃ n₄ (sym was ∙ e ∙ is) .high)) v
 
 -- Of two bytes the first that is no nibble is told, else what is told of two nibbles.
@@ -77,12 +67,12 @@ nibbles-first u x y w s o a t v = go (ltb 15 x) (ltb 15 y) refl refl
   where
     go : (b c : Bool) → ltb 15 x ≡ b → ltb 15 y ≡ c
         → first (sentRows aPatch (u ++ x ∷ y ∷ w) s) v ≡ refused (cond b (outcome 9 (length u)) (cond c (outcome 9 (suc (length u))) o))
-    go true c q r = too-wide u x (y ∷ w) s a (ltb-true 15 x q) v
+    go true c q r = too-wide aPatch u x (y ∷ w) s a (ltb-true 15 x q) v
     go false true q r =
         let one : length (u ++ (x ∷ [])) ≡ suc (length u) = omega (arith, length-append u (x ∷ [])) in
         let small = ltb-false 15 x q in
         rw (append-snoc u x (y ∷ w), one) at
-        (too-wide (u ++ (x ∷ [])) y w s (all-append (λ b. b < 16) u (x ∷ []) a (omega arith, tt)) (ltb-true 15 y r) v)
+        (too-wide aPatch (u ++ (x ∷ [])) y w s (all-append (λ b. b < 16) u (x ∷ []) a (omega arith, tt)) (ltb-true 15 y r) v)
     go false false q r =
         let x-small = ltb-false 15 x q in
         let y-small = ltb-false 15 y r in
@@ -193,7 +183,7 @@ module _ (k : Dump) (filed : Filed (ofDump k)) (patch : k .packed ≡ aPatch) (p
       front = front-narrow p₁ c [] e
 
       go : (t : Bool) → ltb 15 (sum p) ≡ t → first (sentRows aPatch (u ++ (sum p ∷ [])) (c / 16)) v ≡ refused (cond t (outcome 9 (length u)) (outcome 10 0))
-      go true q = too-wide u (sum p) [] (c / 16) front (ltb-true 15 (sum p) q) v
+      go true q = too-wide aPatch u (sum p) [] (c / 16) front (ltb-true 15 (sum p) q) v
       go false q =
           let d = u ++ (sum p ∷ []) in
           let small = ltb-false 15 (sum p) q in
@@ -202,7 +192,7 @@ module _ (k : Dump) (filed : Filed (ofDump k)) (patch : k .packed ≡ aPatch) (p
           let packed = rw (← (append-snoc (nibbles p₁) (c % 16) (sum p ∷ []))) at (pack-pair p₁ [] (c % 16) (sum p)) in
           let was : sum p ≡ (t + (c % 16 + 16 * (c / 16))) % 128 = rw e (omega (arith, sum-around p₁ c [])) in
           let is : sum (pack d) ≡ (t + (c % 16 + 16 * sum p)) % 128 = rw packed (sum-around p₁ (c % 16 + 16 * sum p) []) in
-          wrong-sum d (c / 16) (all-append (λ b. b < 16) u (sum p ∷ []) front (omega arith, tt))
+          wrong-sum aPatch d (c / 16) (all-append (λ b. b < 16) u (sum p ∷ []) front (omega arith, tt))
           (λ z. other (sums-exchanged t (c % 16) (c / 16) (sum p) (omega arith) (omega arith) was (z ∙ is))) v
 
   abbrev sent : List ℕ
@@ -286,4 +276,4 @@ module _ (k : Dump) (filed : Filed (ofDump k)) (patch : k .packed ≡ aPatch) (p
           let narrow = nibbles-narrow p (run-bytes fields 0 p ok) in
           let same : u ++ y ∷ v ≡ nibbles p ++ (y ∷ []) = rw (e₁, e₃) in
           comes-refused (comes n (u ++ y ∷ v) (nibbles p) y (outcome 10 0) same (long-still u (x ∷ []) v (y ∷ []) e refl)
-          (wrong-sum (nibbles p) y narrow (λ z. other (z ∙ ap sum (pack-nibbles p) ∙ sym e₂))))
+          (wrong-sum aPatch (nibbles p) y narrow (λ z. other (z ∙ ap sum (pack-nibbles p) ∙ sym e₂))))

@@ -125,7 +125,7 @@ numbered (numberTo greatest) n = refl
 numbered (always byte) n = refl
 
 -- The packed bytes that a writer takes are bytes.
-packed-bytes : (t : Option Table) (p : List ℕ) → AllBytes t p → outBy t p ≡ none → All (λ b. b < 256) p
+pub packed-bytes : (t : Option Table) (p : List ℕ) → AllBytes t p → outBy t p ≡ none → All (λ b. b < 256) p
 packed-bytes none p bytes e = bytes
 packed-bytes (some t) p u e = run-bytes t 0 p e
 

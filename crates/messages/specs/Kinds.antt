@@ -8,10 +8,11 @@ use lib.Dec.{eqb}
 use Rattle.ranges.specs.Ranges.{Table}
 use Rattle.fields.specs.Fields.{size, fields}
 use Rattle.patch.specs.Patch.{buses}
+use Rattle.splits.specs.Splits.{splitSize, splitFields}
 pub use Rattle.messages.specs.declared.kinds.Behind.{Behind}
 pub use Rattle.messages.specs.declared.kinds.Behind.the-variants.{NumberTo as numberTo, Always as always}
 pub use Rattle.messages.specs.declared.kinds.Packed.{Packed}
-pub use Rattle.messages.specs.declared.kinds.Packed.the-variants.{Patch as aPatch, AnyBytes as anyBytes}
+pub use Rattle.messages.specs.declared.kinds.Packed.the-variants.{Patch as aPatch, Split as aSplit, AnyBytes as anyBytes}
 pub use Rattle.messages.specs.declared.kinds.Dump.{Dump}
 pub use Rattle.messages.specs.declared.kinds.Operands.{Operands}
 pub use Rattle.messages.specs.declared.kinds.Operands.the-variants.{Edit as anEdit, BusEdit as aBusEdit}
@@ -38,6 +39,7 @@ pub record Shape : Type 0 where
 
 abbrev pub shapeOf : Packed → Shape
 shapeOf aPatch = record { count = size; table = some fields; buses = buses }
+shapeOf aSplit = record { count = splitSize; table = some splitFields; buses = 0 }
 shapeOf (anyBytes count) = record { count = count; table = none; buses = 0 }
 
 abbrev pub sizeOf : Packed → ℕ
@@ -59,6 +61,10 @@ shortKind o b = record { opcode = o; length = 5 + countOf b; operands = b }
 abbrev pub singlePatch : Dump
 singlePatch = dumpKind 0x01 (numberTo 99) aPatch
 
+-- 02 (x). 003 prints 42 bytes in all; its own terms, 36 + 5 + 1 + 1, add up to 43.
+abbrev pub splitPatch : Dump
+splitPatch = dumpKind 0x02 (numberTo 49) aSplit
+
 abbrev pub masterParameters : Dump
 masterParameters = dumpKind 0x03 (always 3) (anyBytes master)
 
@@ -73,7 +79,8 @@ editBuffer = dumpKind 0x0D (always 0) aPatch
 
 -- The kinds, in the order of the code's match.
 abbrev pub kinds : List Kind
-kinds = ofDump singlePatch ∷ ofDump masterParameters ∷ ofShort remoteEdit ∷ ofShort busEdit ∷ ofDump editBuffer ∷ []
+kinds =
+    ofDump singlePatch ∷ ofDump splitPatch ∷ ofDump masterParameters ∷ ofShort remoteEdit ∷ ofShort busEdit ∷ ofDump editBuffer ∷ []
 
 abbrev pub opcodeOf : Kind → ℕ
 opcodeOf (ofDump k) = k .opcode

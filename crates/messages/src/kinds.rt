@@ -17,6 +17,15 @@ impl SinglePatch {
     pub const LENGTH: usize = 275;
 }
 
+// Split patch: number, 36 nibbles, sum.
+pub struct SplitPatch;
+
+impl SplitPatch {
+    pub const OPCODE: u8 = 0x02;
+
+    pub const LENGTH: usize = 43;
+}
+
 // Master parameters: version, 344 nibbles, sum.
 pub struct MasterParameters;
 
@@ -55,8 +64,10 @@ impl EditBuffer {
     pub const LENGTH: usize = 275;
 }
 
-// The packed bytes of a patch and of a master.
+// The packed bytes of a patch, of a split and of a master.
 pub const PATCH: usize = patch::SIZE;
+
+pub const SPLIT: usize = splits::SIZE;
 
 pub const MASTER: usize = 172;
 
@@ -66,9 +77,10 @@ pub enum Behind {
     Always(u8),
 }
 
-// The packed bytes of a dump: a patch, which has its own tests, or so many bytes of any value.
+// The packed bytes of a dump: a patch or a split, which have their own tests, or so many bytes of any value.
 pub enum Packed {
     Patch,
+    Split,
     AnyBytes(usize),
 }
 
@@ -106,6 +118,13 @@ pub const SINGLE_PATCH: Dump = Dump {
     packed: Packed::Patch,
 };
 
+pub const SPLIT_PATCH: Dump = Dump {
+    opcode: SplitPatch::OPCODE,
+    length: SplitPatch::LENGTH,
+    behind: Behind::NumberTo(49),
+    packed: Packed::Split,
+};
+
 pub const MASTER_PARAMETERS: Dump = Dump {
     opcode: MasterParameters::OPCODE,
     length: MasterParameters::LENGTH,
@@ -138,6 +157,7 @@ pub fn kind_of(opcode: u8) -> Kind
 {
     match opcode {
         SinglePatch::OPCODE => Kind::Dump(SINGLE_PATCH),
+        SplitPatch::OPCODE => Kind::Dump(SPLIT_PATCH),
         MasterParameters::OPCODE => Kind::Dump(MASTER_PARAMETERS),
         RemoteEdit::OPCODE => Kind::Short(REMOTE_EDIT),
         BusEdit::OPCODE => Kind::Short(BUS_EDIT),
@@ -152,6 +172,7 @@ pub fn size_of(packed: Packed) -> usize
 {
     match packed {
         Packed::Patch => PATCH,
+        Packed::Split => SPLIT,
         Packed::AnyBytes(count) => count,
     }
 }

@@ -1,7 +1,7 @@
 -- What `between` says in numbers. Where a range spans fewer than 129 bytes it never has a byte and the one 128 higher.
 use mathlib.Core.Path.{_≡_, refl}
 use mathlib.Core.Bool.{Bool, true, false, cond, _&&_, _||_}
-use mathlib.Core.Logic.{_⊎_, ⊎-elim}
+use mathlib.Core.Logic.{_⊎_}
 use Prim.Native.Nat.{ℕ, _+_, _-_, _%_, _≤_, _<_}
 use native.Mathlib.Omega.{arith}
 use lib.Dec.{T, leb, ltb, ltb→lt}
@@ -105,14 +105,3 @@ narrow-apart least greatest b n e f =
 -- By n, up or down.
 abbrev pub MovedBy : ℕ → ℕ → ℕ → Type 0
 MovedBy n b c = (c ≡ b + n) ⊎ (b ≡ c + n)
-
--- So a byte that moved by 128 is not in it.
-pub moved-out : (least greatest b c : ℕ) → T (narrow least greatest) → between least greatest b ≡ true → MovedBy 128 b c → between least greatest c ≡ false
-moved-out least greatest b c n e m = go (between least greatest c) refl
-  where
-    go : (t : Bool) → between least greatest c ≡ t → t ≡ false
-    go true f =
-        let up : c ≡ b + 128 → ⊥ = λ h. narrow-apart least greatest b n e (rw h at f) in
-        let down : b ≡ c + 128 → ⊥ = λ h. narrow-apart least greatest c n f (rw h at e) in
-        absurd (⊎-elim up down m)
-    go false f = refl

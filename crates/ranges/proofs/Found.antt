@@ -12,6 +12,7 @@ use Rattle.answers.specs.Effect.{tested}
 use Rattle.ranges.specs.Ranges.{Table, outFrom, countedRows}
 use Rattle.ranges.specs.declared.Failed.the-variants.{At, Nowhere}
 use Rattle.ranges.specs.code.Found.{foundAt, lentTable}
+use Rattle.ranges.specs.code.Passes.{AllIn}
 
 pub found-some : (o : Option ℕ) (k : ℕ) → At k ≡ foundAt o → o ≡ some k
 found-some (some j) k e = cc
@@ -39,3 +40,7 @@ module _ (n : ℕ) (p : List ℕ) (l : length p ≡ n) where
   pub by-table : (t : Table) → (length t ≡ 0 → ⊥) → tested (rowFound 11 (outFrom t 0 p) ∷ []) ≡ tested (countedRows n (lentTable t) p)
   by-table [] z = absurd (z refl)
   by-table (r ∷ t) z = rw (eq-eqb (length p) n l)
+
+-- So many bytes, none of them out of range, pass.
+pub all-pass : (n : ℕ) (t : Table) (p : List ℕ) → AllIn n t p → outcome 0 0 ≡ tested (countedRows n (some t) p)
+all-pass n t p a = rw (eq-eqb (length p) n (a .counted), a .none-out)

@@ -1,20 +1,22 @@
 -- Runs of bytes from a place on, none of them out of range: byte by byte, joined and split, one byte stored.
-use mathlib.Core.Path.{_≡_, refl, sym}
+use mathlib.Core.Path.{_≡_, refl, sym, ap}
 use mathlib.Core.Bool.{Bool, true, false, cond}
 use mathlib.Core.List.{List, [], _∷_, _++_}
+use mathlib.Core.Logic.{⊎-elim}
 use mathlib.Core.Option.{Option, none, some}
 use Prim.Native.Nat.{ℕ, zero, suc, _+_, _-_, _≤_, _<_}
 use native.Mathlib.Nat.{add-zero}
 use native.Mathlib.Omega.{arith}
 use lib.Dec.{T, eqb}
+use lib.IntN.{ℤ}
 use lib.ListN.{length, getD, set}
 use borrow.Author.Tests.{eqb-true, eqb-false}
 use Rattle.answers.specs.Lists.{All}
 use Rattle.answers.specs.Table.{Found, found}
 use Rattle.ranges.specs.Ranges.{Table, leastIn, greatestIn, inRow, valueIn, outFrom}
-use Rattle.ranges.specs.promises.Tables.{LowestOut}
+use Rattle.ranges.specs.promises.Tables.{Apart, Lowest, LowestOut}
 use Rattle.ranges.proofs.Below.{each, at}
-use Rattle.ranges.proofs.Between.{is-byte, narrow, MovedBy, moved-out}
+use Rattle.ranges.proofs.Between.{is-byte, narrow, narrow-apart, MovedBy}
 
 module _ (t : Table) where
   -- Bytes from place k on, none out of range: the first is accepted, and none of the rest is out of range.
@@ -113,22 +115,61 @@ module _ (t : Table) where
         none-out = λ e. let here : some (found k (valueIn t k b)) ≡ none = rw q at e in let z : _≡_ {A = ℕ} 0 1 = cc in absurd (omega arith);
       }
 
+  -- The lowest place out of range is the one that the search finds.
+  pub lowest-only : (k : ℕ) (p : List ℕ) (j : ℕ) (v : ℤ) → Lowest t k p j v → outFrom t k p ≡ some (found j v)
+  unfolding outFrom
+  lowest-only k [] j v l = absurd (omega (arith, l .from, l .below))
+  lowest-only k (b ∷ p) j v l = go (eqb j k) refl (lowest-only (suc k) p j v)
+    where
+      go : (u : Bool) → eqb j k ≡ u → (Lowest t (suc k) p j v → outFrom t (suc k) p ≡ some (found j v)) → outFrom t k (b ∷ p) ≡ some (found j v)
+      go true q later =
+          let same = eqb-true j k q in
+          let first : j - k ≡ 0 = omega arith in
+          let out = rw (first, same) at (l .out) in
+          rw (out, same) (ap (λ (w : ℤ). some (found k w)) (sym (rw (first, same) at (l .value))))
+      go false q later =
+          let other = eqb-false j k q in
+          let past : suc k ≤ j = omega (arith, l .from) in
+          let next : (i : ℕ) → suc k ≤ i → i - k ≡ suc (i - suc k) = λ i h. omega arith in
+          let zero-here : k - k ≡ 0 = omega arith in
+          let here = rw zero-here at (l .before k (omega arith) (omega arith)) in
+          rw here (later (record {
+            from = past;
+            below = omega (arith, l .below);
+            out = rw (next j past) at (l .out);
+            before = λ i a h. rw (next i a) at (l .before i (omega arith) h);
+            value = rw (next j past) at (l .value);
+          }))
+
   -- Every row spans at most 128 bytes.
   abbrev pub narrow-row : ℕ → Bool
   narrow-row k = narrow (leastIn t k) (greatestIn t k)
 
-  -- Where they do, a byte that moved by 128 is the one byte out of range of a run that had none.
-  pub runs-moved : T (each narrow-row (length t)) → (k : ℕ) (p₁ : List ℕ) (b c : ℕ) (p₂ : List ℕ) → k + length (p₁ ++ b ∷ p₂) ≤ length t
+  pub rows-apart : T (each narrow-row (length t)) → Apart t
+  unfolding inRow
+  rows-apart n k b h e f = narrow-apart (leastIn t k) (greatestIn t k) b (at narrow-row (length t) n k h) e f
+
+  -- Where no range has both a byte and the one 128 higher, a byte that moved by 128 is out of its range.
+  moved-out : Apart t → (k b c : ℕ) → k < length t → inRow t k b ≡ true → MovedBy 128 b c → inRow t k c ≡ false
+  moved-out apart k b c h e m = go (inRow t k c) refl
+    where
+      go : (u : Bool) → inRow t k c ≡ u → u ≡ false
+      go true f =
+          let up : c ≡ b + 128 → ⊥ = λ q. apart k b h e (rw q at f) in
+          let down : b ≡ c + 128 → ⊥ = λ q. apart k c h f (rw q at e) in
+          absurd (⊎-elim up down m)
+      go false f = refl
+
+  -- So it is the one byte out of range of a run that had none.
+  pub runs-moved : Apart t → (k : ℕ) (p₁ : List ℕ) (b c : ℕ) (p₂ : List ℕ) → k + length (p₁ ++ b ∷ p₂) ≤ length t
       → outFrom t k (p₁ ++ b ∷ p₂) ≡ none → MovedBy 128 b c
       → outFrom t k (p₁ ++ c ∷ p₂) ≡ some (found (k + length p₁) (valueIn t (k + length p₁) c))
-  unfolding outFrom inRow
-  runs-moved n k [] b c p₂ h e m =
-      let small = at narrow-row (length t) n k (omega arith) in
-      rw (moved-out (leastIn t k) (greatestIn t k) b c small (one-in k b p₂ e .0) m, add-zero k)
-  runs-moved n k (x ∷ p₁) b c p₂ h e m =
+  unfolding outFrom
+  runs-moved apart k [] b c p₂ h e m = rw (moved-out apart k b c (omega arith) (one-in k b p₂ e .0) m, add-zero k)
+  runs-moved apart k (x ∷ p₁) b c p₂ h e m =
       let first = one-in k x (p₁ ++ b ∷ p₂) e in
       let next : k + suc (length p₁) ≡ suc k + length p₁ = omega arith in
-      rw (first .0, next) (runs-moved n (suc k) p₁ b c p₂ (omega arith) (first .1) m)
+      rw (first .0, next) (runs-moved apart (suc k) p₁ b c p₂ (omega arith) (first .1) m)
 
 -- A place, m further on.
 abbrev pub further : ℕ → Option Found → Option Found

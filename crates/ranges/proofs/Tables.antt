@@ -1,7 +1,7 @@
--- The rule of a table: one test, computed over its rows, and what it says at each. A range that is stored from the least byte up, or through
+-- The rule of a table, and which of its fields have a sign: one test each, computed over its rows, and what it says at each. A range that is stored from the least byte up, or through
 -- 255 to 0, is one from the least value to the greatest: in a signed field the least byte is 80H or above and the greatest below.
 use mathlib.Core.Path.{_≡_, refl, ap}
-use mathlib.Core.Bool.{Bool, true, false, cond, _&&_}
+use mathlib.Core.Bool.{Bool, true, false, cond, not, _&&_}
 use mathlib.Core.List.{[]}
 use Prim.Native.Nat.{ℕ, suc, _+_, _-_, _*_, _≤_, _<_}
 use native.Mathlib.Omega.{arith}
@@ -12,7 +12,7 @@ use lib.IntN.{ℤ, pos, negsuc}
 use lib.Signed.{leZ}
 use Rattle.ranges.specs.Ranges.{Table, placeIn, leastIn, greatestIn, between, inRow, signedIn, valueIn}
 use Rattle.ranges.specs.Values.{plus, minus, valueOf, valueBy, fromTo}
-use Rattle.ranges.specs.promises.Tables.{TableRule, Goes}
+use Rattle.ranges.specs.promises.Tables.{TableRule, Signs, Goes}
 use Rattle.ranges.proofs.Below.{parts, each, at}
 use Rattle.ranges.proofs.Between.{is-byte}
 
@@ -75,6 +75,17 @@ is-same (pos a) (pos b) t = ap pos (eqb→eq a b t)
 is-same (pos a) (negsuc b) t = absurd t
 is-same (negsuc a) (pos b) t = absurd t
 is-same (negsuc a) (negsuc b) t = ap negsuc (eqb→eq a b t)
+
+-- Two tests that agree.
+abbrev agree : Bool → Bool → Bool
+agree true b = b
+agree false b = not b
+
+agreed : (a b : Bool) → T (agree a b) → a ≡ b
+agreed true true t = refl
+agreed true false t = absurd t
+agreed false true t = absurd t
+agreed false false t = refl
 
 module _ (t : Table) where
   abbrev bytes-right : ℕ → Bool
@@ -144,6 +155,24 @@ module _ (t : Table) where
       ordered = ordered;
       with-sign = with-sign;
       accepted = λ k b e. is-byte (leastIn t k) (greatestIn t k) b e;
+    }
+
+  -- The fields with a sign are those that are named.
+  abbrev pub signs-right : (ℕ → Bool) → Bool
+  signs-right signed = each (λ k. agree (signedIn t k) (signed k)) (length t)
+
+  module _ (signed : ℕ → Bool) (r : T (signs-right signed)) where
+    has-sign : (k : ℕ) → k < length t → signedIn t k ≡ signed k
+    has-sign k h = agreed (signedIn t k) (signed k) (at (λ k. agree (signedIn t k) (signed k)) (length t) r k h)
+
+    pub signs : Signs t signed
+    unfolding valueBy valueOf
+    signs = record {
+      from-zero = λ k n h e l. rw (has-sign k h, e, lt-ltb n 0x80 l);
+      below-zero = λ k n h e l u.
+          let size : 256 - (256 - n) ≡ n = omega arith in
+          rw (has-sign k h, e, le-ltb (256 - n) 0x80 (omega arith), size);
+      without-sign = λ k b h e. rw (has-sign k h, e);
     }
 
   abbrev goes : ℤ → ℤ → ℕ → Bool

@@ -2,6 +2,7 @@
 use answers::Outcome;
 use answers::WRONG_LENGTH;
 ghost use mathlib.Core.Path.{_≡_};
+ghost use mathlib.Core.Bool.{true};
 ghost use mathlib.Core.List.{[], _∷_};
 ghost use lib.ListN.{getD};
 ghost use Rattle.answers.specs.Effect.{tested};
@@ -9,6 +10,7 @@ ghost use Rattle.answers.specs.Table.{rowFound};
 ghost use Rattle.ranges.specs.Values.{valueOf, valueBy};
 ghost use Rattle.ranges.specs.Ranges.{leastIn, greatestIn, between, inRow, valueIn, outFrom, countedRows};
 ghost use Rattle.ranges.specs.code.Found.{lentTable};
+ghost use Rattle.ranges.specs.code.Passes.{AllIn};
 
 // The lowest index or bus at which a test fails.
 pub enum Failed {
@@ -71,6 +73,26 @@ fn value_in(table: &[[u8; 4]], place: usize, b: u8) -> i16
     value_by(row[3] < row[2], b)
 }
 
+// `true` only for so many bytes that each lie in the range of their row: without a branch, so that they are seen at once.
+pub fn all_in(count: usize, table: &[[u8; 4]], bytes: &[u8]) -> bool
+    ensures { λ r. ⌜ (r ≡ true → AllIn count (now (table .entry)) (now (bytes .entry))) ⌝ }
+{
+    if bytes.len() != count {
+        return false;
+    }
+    let mut out: u8 = 0;
+    let mut k: usize = 0;
+    while k < bytes.len() {
+        if in_row(table, k, bytes[k]) {
+            k += 1;
+        } else {
+            out = 1;
+            k += 1;
+        }
+    }
+    out == 0
+}
+
 // 11 with the lowest place out of range and the value found there, as `in_row` tests each byte; done with detail 0.
 pub fn first_out(table: &[[u8; 4]], bytes: &[u8]) -> Outcome
     ensures { λ r. ⌜ r ≡ tested (rowFound 11 (outFrom (now (table .entry)) 0 (now (bytes .entry))) ∷ []) ⌝ }
@@ -91,11 +113,16 @@ pub fn first_out(table: &[[u8; 4]], bytes: &[u8]) -> Outcome
 pub fn test(count: usize, table: &[[u8; 4]], bytes: &[u8]) -> Outcome
     ensures { λ r. ⌜ r ≡ tested (countedRows count (lentTable (now (table .entry))) (now (bytes .entry))) ⌝ }
 {
+    if table.len() == 0 {
+        if bytes.len() != count {
+            return answers::refused(WRONG_LENGTH, 0);
+        }
+        return answers::done(0);
+    }
+    // The search is begun before the count is told, so that it stays a loop, apart from a pass over the same bytes before it.
+    let out = first_out(table, bytes);
     if bytes.len() != count {
         return answers::refused(WRONG_LENGTH, 0);
     }
-    if table.len() == 0 {
-        return answers::done(0);
-    }
-    first_out(table, bytes)
+    out
 }

@@ -29,6 +29,7 @@ use Rattle.streams.proofs.Lent.{reading-keeps}
 use Rattle.nibbles.specs.Nibbles.{nibbles, pack, nibbleRows, packing, unpacking}
 use Rattle.fields.specs.Parameters.{parameterRow, rangeFor, ranging}
 use Rattle.patch.specs.Patch.{fieldRows, patchRows, heldRows, valueHeld, heldBy, holding}
+use Rattle.splits.specs.Splits.{splitRows}
 use Rattle.patch.proofs.Tests.{field-refusals, patch-refusals}
 use Rattle.names.specs.Names.{stored, shown, nameRows, naming, showing}
 use Rattle.ranges.specs.Ranges.{countedRows}
@@ -496,6 +497,7 @@ demand-1 = record {
   read-where = read-there;
   read-bytes = read-no-bytes;
   test = λ p. decides (patchRows p) 0 [] [] _ (patch-refusals p) refl;
+  test-split = λ p. decides (splitRows p) 0 [] [] _ (omega arith) refl;
   range = range-answered;
   held = held-answered;
   range-refused = no-range;

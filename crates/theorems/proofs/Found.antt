@@ -25,6 +25,7 @@ use Rattle.ranges.proofs.Runs.{lowest-out}
 use Rattle.fields.specs.Fields.{size, fields, valueAt, placeOf}
 use Rattle.patch.specs.Patch.{sourceAt, fieldRows, patchRows}
 use Rattle.patch.proofs.Tests.{field-refusals, patch-refusals}
+use Rattle.splits.specs.Splits.{splitFields}
 use Rattle.edits.specs.Edits.{extended, storedFor, outAt, editRows, busRows}
 use Rattle.edits.proofs.Tests.{edit-refusals, bus-refusals}
 use Rattle.messages.specs.declared.kinds.Kind.{Kind}
@@ -250,6 +251,7 @@ says-what-was-found =
           decided v _ (plain v 7 tt _, (plain v 7 tt _, (plain v 8 tt _, fields-tell p))) (d .set-name p text .decides);
       show-name = λ p out. decided _ (thenRoom (patchRows p) _ out) (room-tells _ (patchRows p) _ out (patch-tells p)) (d .show-name p out .decides);
       held = λ n p. decided _ _ (plain (inPatch p) 8 tt _, patch-tells p) (d .held n p);
+      test-split = λ p. decided _ _ (plain (standing (some splitFields) p) 7 tt _, (by-table splitFields p, tt)) (d .test-split p);
       test-edit = λ n v. decided _ (editRows n v) (operands-tell anEdit (n ∷ v ∷ [])) (d .test-edit n v);
       test-bus-edit = λ b s a t. decided _ (busRows b s a t) (operands-tell aBusEdit (b ∷ s ∷ a ∷ t ∷ [])) (d .test-bus-edit b s a t);
       test-operands = λ o b. decided _ _ (plain (storing o b) 7 tt _, operands-tell o b) (d .test-operands o b);

@@ -11,4 +11,5 @@ pub mod Examples
 pub mod Writers
 pub mod Bank
 pub mod RoundTrips
+pub mod Nibble
 pub mod Starred

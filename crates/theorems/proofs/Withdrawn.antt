@@ -83,6 +83,7 @@ no-input-gives-14 =
       bus-edit = λ b s a t p.
           not-14 _ _ _ (both-refusals (busRows b s a t) (patchRows p) (bus-refusals b s a t) (patch-refusals p)) (d .bus-edit b s a t p .decides);
       test = λ p. not-14 _ _ _ (patch-refusals p) (d .test p);
+      test-split = λ p. not-14 _ _ _ (omega arith) (d .test-split p);
       range = λ n. not-14 _ _ _ (omega arith) (d .range n);
       held = λ n p. not-14 _ _ _ (omega arith, patch-refusals p) (d .held n p);
       test-edit = λ n v. not-14 _ _ _ (edit-refusals n v) (d .test-edit n v);

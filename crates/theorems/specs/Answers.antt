@@ -21,6 +21,7 @@ use Rattle.ranges.specs.Ranges.{Table, countedRows}
 use Rattle.fields.specs.Fields.{size}
 use Rattle.fields.specs.Parameters.{parameterRow, ranging}
 use Rattle.patch.specs.Patch.{fieldRows, patchRows, heldRows, holding}
+use Rattle.splits.specs.Splits.{splitRows}
 use Rattle.names.specs.Names.{shown, nameRows, naming, showing}
 use Rattle.edits.specs.Edits.{editRows, busRows, applying, applyingBus}
 use Rattle.messages.specs.declared.kinds.Kind.{Kind}
@@ -127,7 +128,9 @@ pub record Demand1 : Type 0 where
   -- the bytes that come with the answer are zero with every answer but 0
   pub read-bytes : (s : List ℕ) (place : ℕ) (lent : List ℕ)
       → let r = reads s place lent .result in (r .report .outcome .answer ≡ 0 → ⊥) → r .bytes ≡ four []
+  -- a patch, and a split
   pub test : (p : List ℕ) → Decides (patchRows p) 0 (tested (patchRows p))
+  pub test-split : (p : List ℕ) → Decides (splitRows p) 0 (tested (splitRows p))
   -- the range of a parameter, and its value in a patch
   pub range : (parameter : ℕ) → Decides (parameterRow parameter ∷ []) 0 (ranging parameter .outcome)
   pub held : (parameter : ℕ) (p : List ℕ) → Decides (heldRows parameter p) 0 (holding parameter p .outcome)

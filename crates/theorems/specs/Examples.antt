@@ -1,4 +1,5 @@
--- The examples of document 01 that are marked *, as one table about the definitions that the contracts cite; and examples of request (vi).
+-- The examples of document 01 that are marked *, as one table about the definitions that the contracts cite; and examples of requests (vi)
+-- and (x).
 use mathlib.Core.Path.{_≡_}
 use mathlib.Core.List.{List, [], _∷_, _++_}
 use Prim.Native.Nat.{ℕ}
@@ -11,14 +12,15 @@ use Rattle.answers.specs.code.Numbers.{asNumber}
 use Rattle.fields.specs.Fields.{size}
 use Rattle.fields.specs.Parameters.{range, ranging}
 use Rattle.patch.specs.Patch.{patchRows, held, holding}
+use Rattle.splits.specs.Splits.{splitSize, splitRows}
 use Rattle.names.specs.Names.{naming}
 use Rattle.ranges.specs.Values.{plus, minus, valueOf}
 use Rattle.edits.specs.Edits.{extended, applying, applyingBus}
 use Rattle.messages.specs.declared.kinds.Kind.{Kind}
 use Rattle.messages.specs.declared.kinds.Kind.the-variants.{Dump as ofDump, Short as ofShort}
-use Rattle.messages.specs.Kinds.{singlePatch, remoteEdit, busEdit}
+use Rattle.messages.specs.Kinds.{singlePatch, splitPatch, remoteEdit, busEdit}
 use Rattle.messages.specs.Judge.{judge}
-use Rattle.messages.specs.Layout.{message, recordFor}
+use Rattle.messages.specs.Layout.{messageOf, message, recordFor}
 use Rattle.writing.specs.Writing.{writing}
 
 -- A row: what is computed, and what it comes to.
@@ -142,6 +144,75 @@ foundValues =
 
 abbrev pub FoundValues : Type 0
 FoundValues = All Computes foundValues
+
+-- Request (x): S is the split of zeros with a balance of -31, which is the left zone alone.
+abbrev pub S : List ℕ
+S = zerosBut splitSize ((16, 0xE1) ∷ [])
+
+-- G has the greatest value in every field, L the least.
+abbrev pub G : List ℕ
+G = 63 ∷ 63 ∷ 63 ∷ 63 ∷ 63 ∷ 63 ∷ 63 ∷ 63 ∷ 127 ∷ 127 ∷ 127 ∷ 0x1F ∷ 1 ∷ 127 ∷ 0x1F ∷ 1 ∷ 0x1F ∷ 3 ∷ []
+
+abbrev pub L : List ℕ
+L = zerosBut splitSize ((11, 0xE0) ∷ (14, 0xE0) ∷ (16, 0xE0) ∷ [])
+
+-- A dump of a split, and an output that just fits it.
+abbrev pub splitDump : ℕ → List ℕ → List ℕ
+splitDump number p = message (ofDump splitPatch) (number ∷ []) p
+
+abbrev pub splitRoom : List ℕ
+splitRoom = replicate 43 0xFF
+
+abbrev pub as-split : ℕ → List ℕ → Effect Outcome
+as-split number p = writing (ofDump splitPatch) (number ∷ []) p splitRoom
+
+-- What writing one answers, lent an output of n bytes.
+abbrev pub written-in : ℕ → ℕ → List ℕ → Outcome
+written-in n number p = writing (ofDump splitPatch) (number ∷ []) p (replicate n 0xFF) .result
+
+abbrev pub splits : List Example
+splits =
+    -- S as number 49: places 37 and 38 are 01H and 0EH, the sum at 41 is 61H, place 42 is F7H, all other data zero; read back the same.
+    gives (as-split 49 S)
+    (effect (outcome 0 43)
+    (zerosBut 43 ((0, 0xF0) ∷ (1, 0x10) ∷ (2, 0x06) ∷ (3, 0x02) ∷ (4, 49) ∷ (37, 0x01) ∷ (38, 0x0E) ∷ (41, 0x61) ∷ (42, 0xF7) ∷ []))) ∷
+    gives (judge (splitDump 49 S)) (recordFor (ofDump splitPatch) (49 ∷ []) S) ∷
+    -- Number 50: 8.
+    gives (as-split 50 S) (effect (outcome 8 0) splitRoom) ∷
+    gives (judge (splitDump 50 S)) (refused (outcome 8 0)) ∷
+    -- A balance of -33; MIDI out of the left zone 2, where 0 and 1 are allowed.
+    gives (tested (splitRows (set S 16 0xDF))) (outcomeAt 11 16 (minus 33)) ∷
+    gives (judge (splitDump 0 (set S 12 2))) (refused (outcomeAt 11 12 (plus 2))) ∷
+    -- The balance's high nibble moved by 8; its low one replaced; a nibble of 16.
+    gives (judge (set (splitDump 49 S) 38 0x06)) (refused (outcomeAt 11 16 (plus 97))) ∷
+    gives (judge (set (splitDump 49 S) 37 0x02)) (refused (outcome 10 0)) ∷
+    gives (judge (set (splitDump 49 S) 37 16)) (refused (outcome 9 32)) ∷
+    -- G as number 7, whole, and L as number 1, both read back the same.
+    gives (as-split 7 G)
+    (effect (outcome 0 43)
+    (0xF0 ∷ 0x10 ∷ 0x06 ∷ 0x02 ∷ 7 ∷
+    15 ∷ 3 ∷ 15 ∷ 3 ∷ 15 ∷ 3 ∷ 15 ∷ 3 ∷ 15 ∷ 3 ∷ 15 ∷ 3 ∷ 15 ∷ 3 ∷ 15 ∷ 3 ∷ 15 ∷ 7 ∷ 15 ∷ 7 ∷
+    15 ∷ 7 ∷ 15 ∷ 1 ∷ 1 ∷ 0 ∷ 15 ∷ 7 ∷ 15 ∷ 1 ∷ 1 ∷ 0 ∷ 15 ∷ 1 ∷ 3 ∷ 0 ∷ 0x56 ∷ 0xF7 ∷ [])) ∷
+    gives (judge (splitDump 7 G)) (recordFor (ofDump splitPatch) (7 ∷ []) G) ∷
+    gives (judge (splitDump 1 L)) (recordFor (ofDump splitPatch) (1 ∷ []) L) ∷
+    -- 000's dummy split has neither number nor sum: 7. Opcode 04H: 6.
+    gives (judge (messageOf (splitPatch .opcode) (replicate 36 0))) (refused (outcome 7 0)) ∷
+    gives (judge (messageOf 0x04 (1 ∷ 0 ∷ []))) (refused (outcome 6 0)) ∷
+    -- Several faults at once, mended one after another. Read: a byte too many, number 50, a data byte of 16, a wrong sum, byte 17 is 4.
+    gives (judge (messageOf 0x02 (50 ∷ (16 ∷ (replicate 33 0 ++ (4 ∷ 0 ∷ 0 ∷ 0 ∷ [])))))) (refused (outcome 7 0)) ∷
+    gives (judge (messageOf 0x02 (50 ∷ (16 ∷ (replicate 33 0 ++ (4 ∷ 0 ∷ 0 ∷ [])))))) (refused (outcome 8 0)) ∷
+    gives (judge (messageOf 0x02 (49 ∷ (16 ∷ (replicate 33 0 ++ (4 ∷ 0 ∷ 0 ∷ [])))))) (refused (outcome 9 0)) ∷
+    gives (judge (messageOf 0x02 (49 ∷ (0 ∷ (replicate 33 0 ++ (4 ∷ 0 ∷ 0 ∷ [])))))) (refused (outcome 10 0)) ∷
+    gives (judge (messageOf 0x02 (49 ∷ (0 ∷ (replicate 33 0 ++ (4 ∷ 0 ∷ 4 ∷ [])))))) (refused (outcomeAt 11 17 (plus 4))) ∷
+    -- Written: 17 bytes, number 50, byte 16 is 20H, an output of 42.
+    gives (written-in 42 50 (zerosBut 17 ((16, 0x20) ∷ []))) (outcome 7 0) ∷
+    gives (written-in 42 50 (zerosBut 18 ((16, 0x20) ∷ []))) (outcome 8 0) ∷
+    gives (written-in 42 49 (zerosBut 18 ((16, 0x20) ∷ []))) (outcomeAt 11 16 (plus 32)) ∷
+    gives (written-in 42 49 (zerosBut 18 ((16, 0x1F) ∷ []))) (outcome 13 0) ∷
+    gives (written-in 43 49 (zerosBut 18 ((16, 0x1F) ∷ []))) (outcome 0 43) ∷ []
+
+abbrev pub Splits : Type 0
+Splits = All Computes splits
 
 -- Every row holds.
 abbrev pub Starred : Type 0

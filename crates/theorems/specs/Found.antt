@@ -13,6 +13,7 @@ use Rattle.streams.specs.Stream.{packedIn, reportsFrom}
 use Rattle.ranges.specs.Ranges.{Table, valueIn, countedRows}
 use Rattle.fields.specs.Fields.{valueAt}
 use Rattle.patch.specs.Patch.{sourceAt, patchRows, holding}
+use Rattle.splits.specs.Splits.{splitFields, splitRows}
 use Rattle.names.specs.Names.{naming, showing}
 use Rattle.edits.specs.Edits.{extended, storedFor, editRows, busRows, applying, applyingBus}
 use Rattle.messages.specs.declared.kinds.Kind.{Kind}
@@ -85,6 +86,8 @@ pub record SaysWhatWasFound : Type 0 where
   pub set-name : (p text : List ℕ) → Tells (inPatch p) (naming p text .result)
   pub show-name : (p out : List ℕ) → Tells (inPatch p) (showing p out .result)
   pub held : (parameter : ℕ) (p : List ℕ) → Tells (inPatch p) (holding parameter p .outcome)
+  -- a split that is tested
+  pub test-split : (p : List ℕ) → Tells (standing (some splitFields) p) (tested (splitRows p))
   -- the tests of an edit and of packed bytes, by themselves
   pub test-edit : (parameter v : ℕ) → Tells (storing anEdit (parameter ∷ v ∷ [])) (tested (editRows parameter v))
   pub test-bus-edit : (bus source amount destination : ℕ)

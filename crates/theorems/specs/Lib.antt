@@ -6,4 +6,5 @@ pub mod Found
 pub mod Noise
 pub mod Withdrawn
 pub mod RoundTrips
+pub mod Nibble
 pub mod Examples

@@ -13,6 +13,7 @@ use Rattle.nibbles.specs.Nibbles.{packing, unpacking}
 use Rattle.ranges.specs.Ranges.{Table, countedRows}
 use Rattle.fields.specs.Parameters.{ranging}
 use Rattle.patch.specs.Patch.{patchRows, holding}
+use Rattle.splits.specs.Splits.{splitRows}
 use Rattle.names.specs.Names.{naming, showing}
 use Rattle.edits.specs.Edits.{editRows, busRows, withBus, applying, applyingBus}
 use Rattle.edits.specs.promises.Withdrawn.{with14}
@@ -53,6 +54,7 @@ pub record NoInputGives14 : Type 0 where
   pub bus-edit : (bus source amount destination : ℕ) (p : List ℕ) → Not14 (applyingBus bus source amount destination p .result)
   -- the tests by themselves
   pub test : (p : List ℕ) → Not14 (tested (patchRows p))
+  pub test-split : (p : List ℕ) → Not14 (tested (splitRows p))
   pub range : (parameter : ℕ) → Not14 (ranging parameter .outcome)
   pub held : (parameter : ℕ) (p : List ℕ) → Not14 (holding parameter p .outcome)
   pub test-edit : (parameter v : ℕ) → Not14 (tested (editRows parameter v))

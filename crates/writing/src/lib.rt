@@ -18,6 +18,7 @@ use messages::kinds::MasterParameters;
 use messages::kinds::PATCH;
 use messages::kinds::REMOTE_EDIT;
 use messages::kinds::SINGLE_PATCH;
+use messages::kinds::SPLIT_PATCH;
 use messages::kinds::Short;
 use messages::kinds::SinglePatch;
 use messages::kinds::size_of;
@@ -30,7 +31,7 @@ ghost use Rattle.answers.specs.Effect.{Gives, tested, atStart};
 ghost use Rattle.fields.specs.Fields.{size};
 ghost use Rattle.nibbles.specs.Nibbles.{sum};
 ghost use Rattle.messages.specs.declared.kinds.Kind.the-variants.{Dump as ofDump, Short as ofShort};
-ghost use Rattle.messages.specs.Kinds.{singlePatch, masterParameters, editBuffer, remoteEdit, busEdit};
+ghost use Rattle.messages.specs.Kinds.{singlePatch, splitPatch, masterParameters, editBuffer, remoteEdit, busEdit};
 ghost use Rattle.messages.specs.code.Sizes.{sized};
 ghost use Rattle.messages.specs.Layout.{dump, dumpGiven};
 ghost use Rattle.writing.specs.Writing.{writing, writingBank, bankBytes, firstBad, bankMost, noPlace};
@@ -115,6 +116,13 @@ pub fn write_patch(number: u8, p: &[u8], out: &mut [u8]) -> Outcome
     ensures { λ r. ⌜ Gives (writing (ofDump singlePatch) (number ∷ []) (now (p .entry)) (now (out .entry))) r (now (out .exit)) ⌝ }
 {
     write_dump(SINGLE_PATCH, number, p, out)
+}
+
+// Writes a numbered split: 7 for a split that is not 18 bytes, 8 for a number above 49, the split's own 11, then 13. Done with detail 43.
+pub fn write_split(number: u8, p: &[u8], out: &mut [u8]) -> Outcome
+    ensures { λ r. ⌜ Gives (writing (ofDump splitPatch) (number ∷ []) (now (p .entry)) (now (out .entry))) r (now (out .exit)) ⌝ }
+{
+    write_dump(SPLIT_PATCH, number, p, out)
 }
 
 // Writes a patch to the edit buffer, which has no number: the patch's own 7, 11 and 12, then 13. Done with detail 275.

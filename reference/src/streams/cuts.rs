@@ -46,7 +46,7 @@ static CUT_KINDS: [CutKind; 15] = [
     cut_kind("all at once", |_, length| vec![length]),
 ];
 
-static STREAM_KINDS: [StreamKind; 12] = [
+static STREAM_KINDS: [StreamKind; 13] = [
     stream_kind("real time alone", real_time_alone),
     stream_kind("starts only", |random| vec![START; random.within(1..=400)]),
     stream_kind("never ending", never_ending),
@@ -59,6 +59,7 @@ static STREAM_KINDS: [StreamKind; 12] = [
     }),
     stream_kind("edits", |random| repeated(random, 30, pieces::any_edit)),
     stream_kind("masters", |random| repeated(random, 4, pieces::master)),
+    stream_kind("splits", |random| repeated(random, 20, pieces::any_split)),
     stream_kind("dumps", |random| repeated(random, 4, pieces::any_dump)),
     stream_kind("of a seed", |random| stream(random.draw())),
 ];
@@ -178,9 +179,10 @@ fn more_each_time(_: &mut Random, length: usize) -> Vec<usize> {
 
 /// The length of a message, or one or two bytes fewer or more.
 fn near_a_message(random: &mut Random, length: usize) -> Vec<usize> {
-    const LENGTHS: [usize; 4] = [
+    const LENGTHS: [usize; 5] = [
         length::REMOTE_EDIT,
         length::BUS_EDIT,
+        length::SPLIT,
         length::SINGLE_PATCH,
         length::MASTER,
     ];

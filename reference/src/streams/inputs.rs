@@ -1,9 +1,13 @@
 //! Inputs for single routines: good ones, bad ones, ones at the edges.
 
+use std::array;
+
 use super::Random;
-use crate::kinds::MASTER_LENGTH;
+use crate::kinds::{LAST_SPLIT, MASTER_LENGTH};
 use crate::patch::{half_used, BUSES};
-use crate::table::{allows, parameter_of, PATCH_LENGTH, ROWS};
+use crate::rows::Row;
+use crate::splits::{self, SPLIT_LENGTH};
+use crate::table::{parameter_of, PATCH_LENGTH, ROWS};
 use crate::NAME_LENGTH;
 
 /// The places of a source and a destination; all buses have the ranges of the first.
@@ -27,9 +31,23 @@ pub fn good_patch(random: &mut Random) -> [u8; PATCH_LENGTH] {
     patch
 }
 
-/// A byte its field allows, the ends of the range more often than the rest.
+/// A split in range.
+pub fn good_split(random: &mut Random) -> [u8; SPLIT_LENGTH] {
+    array::from_fn(|place| in_range(random, &splits::ROWS[place]))
+}
+
+/// A byte its field of a patch allows, the ends of the range more often than the rest.
 pub fn good_byte(random: &mut Random, place: usize) -> u8 {
-    let row = &ROWS[place];
+    in_range(random, &ROWS[place])
+}
+
+/// A byte its field of a patch doesn't allow, below the least value or above the greatest: just
+/// outside, 128 away, or any.
+pub fn bad_byte(random: &mut Random, place: usize) -> u8 {
+    out_of_range(random, &ROWS[place])
+}
+
+fn in_range(random: &mut Random, row: &Row) -> u8 {
     let (least, greatest) = (row.least.cast_unsigned(), row.greatest.cast_unsigned());
     match random.below(8) {
         0 => least,
@@ -38,18 +56,16 @@ pub fn good_byte(random: &mut Random, place: usize) -> u8 {
     }
 }
 
-/// A byte its field doesn't allow, below the least value or above the greatest: just outside, 128
-/// away, or any.
-pub fn bad_byte(random: &mut Random, place: usize) -> u8 {
-    let row = &ROWS[place];
+fn out_of_range(random: &mut Random, row: &Row) -> u8 {
+    let range = row.least..=row.greatest;
     loop {
         let byte = match random.below(4) {
             0 => row.greatest.cast_unsigned() + 1,
             1 => row.least.cast_unsigned().wrapping_sub(1),
-            2 => good_byte(random, place) ^ 0x80,
+            2 => in_range(random, row) ^ 0x80,
             _ => random.byte(),
         };
-        if !allows(place, byte) {
+        if !range.contains(&byte.cast_signed()) {
             return byte;
         }
     }
@@ -132,6 +148,24 @@ pub fn bad_patch(random: &mut Random) -> [u8; PATCH_LENGTH] {
     }
 }
 
+/// A split out of range at one place, each as often as the others, all else good.
+pub fn one_out_of_range_split(random: &mut Random) -> [u8; SPLIT_LENGTH] {
+    let mut split = good_split(random);
+    let row = &splits::ROWS[random.below(SPLIT_LENGTH)];
+    split[usize::from(row.place)] = out_of_range(random, row);
+    split
+}
+
+/// A split out of range at one to three places, all else good.
+pub fn out_of_range_split(random: &mut Random) -> [u8; SPLIT_LENGTH] {
+    let mut split = one_out_of_range_split(random);
+    for _ in 0..random.below(3) {
+        let row = &splits::ROWS[random.below(SPLIT_LENGTH)];
+        split[usize::from(row.place)] = out_of_range(random, row);
+    }
+    split
+}
+
 /// A lent patch: mostly good, sometimes bad, sometimes of a wrong length.
 pub fn patch(random: &mut Random) -> Vec<u8> {
     match random.below(8) {
@@ -141,6 +175,19 @@ pub fn patch(random: &mut Random) -> Vec<u8> {
         }
         1 | 2 => bad_patch(random).to_vec(),
         _ => good_patch(random).to_vec(),
+    }
+}
+
+/// A lent split: mostly good, sometimes out of range, sometimes of a wrong length.
+pub fn split(random: &mut Random) -> Vec<u8> {
+    match random.below(8) {
+        0 => {
+            let length = near(random, SPLIT_LENGTH);
+            bytes(random, length)
+        }
+        1 => one_out_of_range_split(random).to_vec(),
+        2 => out_of_range_split(random).to_vec(),
+        _ => good_split(random).to_vec(),
     }
 }
 
@@ -183,6 +230,15 @@ pub fn number(random: &mut Random) -> u8 {
         0 => random.pick(&[99, 100, 127, 128, 255]),
         1 => random.byte(),
         _ => random.byte_within(0..=99),
+    }
+}
+
+/// A split number to write: mostly allowed.
+pub fn split_number(random: &mut Random) -> u8 {
+    match random.below(8) {
+        0 => random.pick(&[LAST_SPLIT, LAST_SPLIT + 1, 63, 99, 100, 127, 128, 255]),
+        1 => random.byte(),
+        _ => random.byte_within(0..=LAST_SPLIT),
     }
 }
 
@@ -273,7 +329,7 @@ pub fn bus_edit(random: &mut Random) -> [u8; 4] {
             }
         }
         2 => edit[random.below(4)] = random.byte(),
-        3 => edit = std::array::from_fn(|_| random.byte()),
+        3 => edit = array::from_fn(|_| random.byte()),
         4 => {
             let (index, place) = random.pick(&[(1, SOURCE), (3, DESTINATION)]);
             edit[index] = bad_byte(random, place);

@@ -26,7 +26,7 @@ const fn kind(name: &'static str, piece: Piece) -> Kind {
 }
 
 /// The kinds, in the order in which seeds pick them.
-static KINDS: [Kind; 40] = [
+static KINDS: [Kind; 45] = [
     kind("real time only", pieces::real_time_only),
     kind("real time in runs", pieces::real_time_runs),
     kind("dense real time", pieces::dense_real_time),
@@ -34,6 +34,7 @@ static KINDS: [Kind; 40] = [
     kind("real time between", pieces::real_time_between),
     kind("nearly nothing", pieces::nearly_nothing),
     kind("single patch", pieces::single_patch),
+    kind("split", pieces::split),
     kind("edit buffer", pieces::edit_buffer),
     kind("master", pieces::master),
     kind("remote edit", pieces::remote_edit),
@@ -50,6 +51,10 @@ static KINDS: [Kind; 40] = [
     kind("mutated", pieces::mutated),
     kind("high nibble moved", pieces::high_nibble_moved),
     kind("master nibble", pieces::master_nibble),
+    kind("split nibble", pieces::split_nibble),
+    kind("split out of range", pieces::split_out_of_range),
+    kind("split of a wrong length", pieces::split_of_wrong_length),
+    kind("dummy splits", pieces::dummy_splits),
     kind("number not allowed", pieces::bad_number),
     kind("out of range", pieces::out_of_range),
     kind("half used", pieces::half_used),

@@ -3,11 +3,13 @@
 use super::damage::{low_nibble, Damage};
 use super::{inputs, Random};
 use crate::frames::{END, START};
-use crate::kinds::{opcode, MASTER_LENGTH, MATRIX, OBERHEIM, VERSION};
+use crate::kinds::{opcode, LAST_SPLIT, MASTER_LENGTH, MATRIX, OBERHEIM, VERSION};
 use crate::nibbles;
+use crate::splits::SPLIT_LENGTH;
 
-const OPCODES: [u8; 5] = [
+const OPCODES: [u8; 6] = [
     opcode::SINGLE_PATCH,
+    opcode::SPLIT,
     opcode::MASTER,
     opcode::REMOTE_EDIT,
     opcode::BUS_EDIT,
@@ -54,6 +56,21 @@ pub(super) fn single_patch(random: &mut Random, out: &mut Vec<u8>) {
     );
 }
 
+/// A split with an allowed number, of these packed bytes.
+fn split_of(random: &mut Random, split: &[u8], out: &mut Vec<u8>) {
+    dump(
+        opcode::SPLIT,
+        random.byte_within(0..=LAST_SPLIT),
+        split,
+        out,
+    );
+}
+
+pub(super) fn split(random: &mut Random, out: &mut Vec<u8>) {
+    let split = inputs::good_split(random);
+    split_of(random, &split, out);
+}
+
 pub(super) fn edit_buffer(random: &mut Random, out: &mut Vec<u8>) {
     dump(opcode::EDIT_BUFFER, 0, &inputs::good_patch(random), out);
 }
@@ -79,16 +96,23 @@ fn patch_dump(random: &mut Random, out: &mut Vec<u8>) {
 
 /// A dump of any kind.
 pub(super) fn any_dump(random: &mut Random, out: &mut Vec<u8>) {
-    if random.one_in(3) {
-        master(random, out);
-    } else {
-        patch_dump(random, out);
+    match random.below(6) {
+        0 | 1 => master(random, out),
+        2 => split(random, out),
+        _ => patch_dump(random, out),
     }
 }
 
 /// An accepted message of any kind.
 pub(super) fn good_message(random: &mut Random, out: &mut Vec<u8>) {
-    const KINDS: [Piece; 5] = [single_patch, edit_buffer, master, remote_edit, bus_edit];
+    const KINDS: [Piece; 6] = [
+        single_patch,
+        split,
+        edit_buffer,
+        master,
+        remote_edit,
+        bus_edit,
+    ];
     random.pick(&KINDS)(random, out);
 }
 
@@ -113,7 +137,7 @@ pub(super) fn bank(random: &mut Random, out: &mut Vec<u8>) {
 /// A dump whose number, version or zero isn't allowed.
 pub(super) fn bad_number(random: &mut Random, out: &mut Vec<u8>) {
     let patch = inputs::good_patch(random);
-    match random.below(3) {
+    match random.below(4) {
         0 => dump(
             opcode::SINGLE_PATCH,
             random.byte_within(100..=127),
@@ -126,6 +150,10 @@ pub(super) fn bad_number(random: &mut Random, out: &mut Vec<u8>) {
             &patch,
             out,
         ),
+        2 => {
+            let number = random.pick(&[50, 50, 51, 63, 99, 127]);
+            dump(opcode::SPLIT, number, &inputs::good_split(random), out);
+        }
         _ => {
             let version = random.pick(&[0, 1, 2, 4, 127]);
             let packed = inputs::bytes(random, MASTER_LENGTH);
@@ -155,6 +183,95 @@ fn fields_out_of_range(random: &mut Random, out: &mut Vec<u8>) {
 pub(super) fn half_used(random: &mut Random, out: &mut Vec<u8>) {
     let patch = inputs::half_used_patch(random);
     patch_dump_of(random, &patch, out);
+}
+
+/// A split with the right sum, out of range at one place or at one to three.
+pub(super) fn split_out_of_range(random: &mut Random, out: &mut Vec<u8>) {
+    let split = if random.one_in(2) {
+        inputs::one_out_of_range_split(random)
+    } else {
+        inputs::out_of_range_split(random)
+    };
+    split_of(random, &split, out);
+}
+
+/// A split of 42 bytes, as 003 prints; of 44; of 41, with number and sum or as 000's dummy split,
+/// which has neither; or of any other length.
+pub(super) fn split_of_wrong_length(random: &mut Random, out: &mut Vec<u8>) {
+    let mut body = Vec::new();
+    split(random, &mut body);
+    let mut body = body[4..body.len() - 1].to_vec();
+    match random.below(5) {
+        0 => {
+            body.remove(random.below(body.len()));
+        }
+        1 => {
+            let at = random.within(0..=body.len());
+            body.insert(at, random.byte_within(0..=15));
+        }
+        2 => {
+            body.drain(1..3);
+        }
+        3 => return dummy_split(&dummy_data(random), out),
+        _ => {
+            body.truncate(random.below(body.len()));
+            data(random, 80, &mut body);
+            // The right length is none of them.
+            if body.len() == 2 * SPLIT_LENGTH + 2 {
+                body.push(0);
+            }
+        }
+    }
+    message(opcode::SPLIT, &body, out);
+}
+
+/// A split good, out of range or of a wrong length.
+pub(super) fn any_split(random: &mut Random, out: &mut Vec<u8>) {
+    const SPLITS: [Piece; 4] = [split, split, split_out_of_range, split_of_wrong_length];
+    random.pick(&SPLITS)(random, out);
+}
+
+/// 000's dummy split: 36 bytes of data, neither number nor sum.
+fn dummy_split(data: &[u8; 2 * SPLIT_LENGTH], out: &mut Vec<u8>) {
+    message(opcode::SPLIT, data, out);
+}
+
+/// The data of a dummy split: zeros, a good split's, or any below 80H.
+fn dummy_data(random: &mut Random) -> [u8; 2 * SPLIT_LENGTH] {
+    let mut data = [0; 2 * SPLIT_LENGTH];
+    match random.below(3) {
+        0 => {}
+        1 => nibbles::unpack(&inputs::good_split(random), &mut data),
+        _ => data.fill_with(|| random.byte_within(0..=127)),
+    }
+    data
+}
+
+/// What a Matrix-1000 sends behind its patches when asked for everything (000): fifty dummy splits;
+/// or a few of them.
+pub(super) fn dummy_splits(random: &mut Random, out: &mut Vec<u8>) {
+    if random.one_in(2) {
+        patch_dump(random, out);
+    }
+    let data = dummy_data(random);
+    for _ in 0..random.pick(&[1, 4, 50]) {
+        dummy_split(&data, out);
+    }
+    if random.one_in(2) {
+        master(random, out);
+    }
+}
+
+/// A split with one nibble replaced, by another nibble or by any byte.
+pub(super) fn split_nibble(random: &mut Random, out: &mut Vec<u8>) {
+    let start = out.len();
+    split(random, out);
+    let at = low_nibble(start, 0) + random.below(2 * SPLIT_LENGTH);
+    if random.one_in(2) {
+        out[at] ^= random.byte_within(1..=15);
+    } else {
+        Damage::replace(random, out, at).apply(out);
+    }
 }
 
 /// A high nibble moved by 8, so that the sum stays.
@@ -191,13 +308,15 @@ pub(super) fn wide_data(random: &mut Random, out: &mut Vec<u8>) {
 /// A dump with a wrong sum; often that of the nibbles sent in place of the packed bytes.
 pub(super) fn wrong_sum(random: &mut Random, out: &mut Vec<u8>) {
     let start = out.len();
-    if random.one_in(3) {
-        master(random, out);
-    } else if random.one_in(2) {
-        let patch = inputs::bad_patch(random);
-        patch_dump_of(random, &patch, out);
-    } else {
-        patch_dump(random, out);
+    match random.below(6) {
+        0 | 1 => master(random, out),
+        2 => {
+            let patch = inputs::bad_patch(random);
+            patch_dump_of(random, &patch, out);
+        }
+        3 => split(random, out),
+        4 => split_out_of_range(random, out),
+        _ => patch_dump(random, out),
     }
     let at = out.len() - 2;
     if random.one_in(3) {
@@ -267,7 +386,7 @@ pub(super) fn other_device(random: &mut Random, out: &mut Vec<u8>) {
     out.push(END);
 }
 
-/// A message of this device with an opcode not among the five, or with none.
+/// A message of this device with an opcode not among the six, or with none.
 pub(super) fn other_opcode(random: &mut Random, out: &mut Vec<u8>) {
     let opcode = random.byte_within(0..=127);
     if random.one_in(8) || OPCODES.contains(&opcode) {
@@ -277,15 +396,18 @@ pub(super) fn other_opcode(random: &mut Random, out: &mut Vec<u8>) {
         good_message(random, out);
         out[start + 3] = opcode;
     } else {
-        let opcode = random.pick(&[0x00, 0x02, 0x04, 0x05, 0x07, 0x0A, 0x0C, 0x0E, opcode]);
+        let opcode = random.pick(&[0x00, 0x04, 0x05, 0x07, 0x0A, 0x0C, 0x0E, opcode]);
         let mut body = Vec::new();
         data(random, 40, &mut body);
         message(opcode, &body, out);
     }
 }
 
-/// A message of the five kinds with a wrong length: one of another's, one near, or any.
+/// A message of the six kinds with a wrong length: one of another's, one near, or any.
 pub(super) fn wrong_length(random: &mut Random, out: &mut Vec<u8>) {
+    if random.one_in(5) {
+        return split_of_wrong_length(random, out);
+    }
     let start = out.len();
     good_message(random, out);
     match random.below(4) {
@@ -323,9 +445,10 @@ pub(super) fn real_time_inside(random: &mut Random, out: &mut Vec<u8>) {
 }
 
 /// Messages with a fault, each complete.
-const FAULTY: [Piece; 9] = [
+const FAULTY: [Piece; 10] = [
     bad_number,
     fields_out_of_range,
+    split_out_of_range,
     half_used,
     wide_data,
     wrong_sum,
@@ -533,10 +656,12 @@ pub(super) fn exchanged(random: &mut Random, out: &mut Vec<u8>) {
 /// A dump with two neighbouring data bytes replaced, mostly the nibbles of one packed byte.
 pub(super) fn pair_replaced(random: &mut Random, out: &mut Vec<u8>) {
     let start = out.len();
-    match random.below(8) {
+    match random.below(16) {
         0 => edit_begun_in_patch(random, out),
         1 => edit_begun_in_master(random, out),
         2 => last_nibble_and_sum(random, out),
+        3 => split_begun_in_patch(random, out),
+        4 => split_begun_in_master(random, out),
         _ => {
             any_dump(random, out);
             let data = start + 5..out.len() - 2;
@@ -576,8 +701,38 @@ fn edit_begun_in_master(random: &mut Random, out: &mut Vec<u8>) {
         let last = vec![MATRIX, opcode::BUS_EDIT, bus, source, amount];
         (last, destination)
     };
+    begun_in_master(random, &last, sum, out);
+}
+
+/// A patch dump with F0H and 10H put before data that read 06H and 02H, in its name. It is too far
+/// from the end for a split.
+fn split_begun_in_patch(random: &mut Random, out: &mut Vec<u8>) {
+    let mut patch = inputs::good_patch(random);
+    let place = random.within(1..=7);
+    patch[place] = opcode::SPLIT << 4 | MATRIX;
+    let at = low_nibble(out.len(), place - 1);
+    patch_dump_of(random, &patch, out);
+    begin_header(at, out);
+}
+
+/// A master whose last data and checksum read as a split behind F0H and 10H put before them, at
+/// times as one out of range.
+fn split_begun_in_master(random: &mut Random, out: &mut Vec<u8>) {
+    let split = if random.one_in(4) {
+        inputs::one_out_of_range_split(random)
+    } else {
+        inputs::good_split(random)
+    };
+    let mut last = [0; 3 + 2 * SPLIT_LENGTH];
+    last[..3].copy_from_slice(&[MATRIX, opcode::SPLIT, random.byte_within(0..=15)]);
+    nibbles::unpack(&split, &mut last[3..]);
+    begun_in_master(random, &last, nibbles::sum(&split), out);
+}
+
+/// A master with these last data and this checksum, and F0H and 10H put before them.
+fn begun_in_master(random: &mut Random, last: &[u8], sum: u8, out: &mut Vec<u8>) {
     let mut data = inputs::bytes(random, 2 * MASTER_LENGTH - last.len());
-    data.extend_from_slice(&last);
+    data.extend_from_slice(last);
     data.iter_mut().for_each(|byte| *byte &= 0x0F);
 
     let mut packed = [0; MASTER_LENGTH];
@@ -638,9 +793,9 @@ pub(super) fn start_rich_noise(random: &mut Random, out: &mut Vec<u8>) {
 }
 
 /// The bytes that messages begin and end with, and a few that break them.
-const MARKS: [u8; 16] = [
-    START, START, END, END, OBERHEIM, OBERHEIM, MATRIX, MATRIX, 0x01, 0x03, 0x0B, 0x0D, 0x00, 0x7F,
-    0x80, 0xFE,
+const MARKS: [u8; 17] = [
+    START, START, END, END, OBERHEIM, OBERHEIM, MATRIX, MATRIX, 0x01, 0x02, 0x03, 0x0B, 0x0D, 0x00,
+    0x7F, 0x80, 0xFE,
 ];
 
 /// Noise made of headers, so that short messages come out of it.

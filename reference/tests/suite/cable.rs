@@ -5,7 +5,7 @@ use std::iter;
 use reference::{CableReader, Fed, Report, LONGEST_STREAM};
 
 use crate::cable_model::{took, without_message, Both, LIMIT};
-use crate::kit::{bass, bus_message, dump, edit_message, found, noisy, report, reported, P};
+use crate::kit::{bass, bus_message, dump, edit_message, found, noisy, report, reported, P, SPLIT};
 
 /// A call in which a message without a record ended.
 fn refused(taken: usize, report: Report) -> Fed {
@@ -110,6 +110,7 @@ fn records_of_every_kind() {
     let bytes = [9, 20, 0x40, 32];
     let messages = [
         (dump(0x01, 41, &patch), [41, 0, 0, 0], patch.to_vec()),
+        (dump(0x02, 49, &SPLIT), [49, 0, 0, 0], SPLIT.to_vec()),
         (dump(0x0D, 0, &patch), [0; 4], patch.to_vec()),
         (master(0xB7), [0; 4], vec![0xB7; 172]),
         (edit_message([12, 0x60]).to_vec(), [12, 0x60, 0, 0], vec![]),
@@ -153,12 +154,16 @@ fn packed_bytes_until_the_next_call() {
     assert!(both.reader.packed().is_empty());
     // The next dump's come instead.
     let mut both = behind_a_dump(0);
+    let _ = both.feed(&dump(0x02, 0, &SPLIT));
+    assert_eq!(both.reader.packed(), SPLIT);
     let _ = both.feed(&master(0x5A));
     assert_eq!(both.reader.packed(), [0x5A; 172]);
     let _ = both.feed(&dump(0x0D, 0, &bass()));
     assert_eq!(both.reader.packed(), bass());
     // A refused dump has none.
     let _ = both.feed(&dump(0x01, 100, &P));
+    assert!(both.reader.packed().is_empty());
+    let _ = both.feed(&dump(0x02, 50, &SPLIT));
     assert!(both.reader.packed().is_empty());
 }
 
@@ -197,11 +202,12 @@ fn content(header: &[u8], length: usize) -> Vec<u8> {
 
 #[test]
 fn longer_messages_are_followed_to_their_end() {
-    let headers: [(&[u8], u8); 5] = [
+    let headers: [(&[u8], u8); 6] = [
         (&[], 4),
         (&[0x10, 0x07], 5),
-        (&[0x10, 0x06, 0x02], 6),
+        (&[0x10, 0x06, 0x05], 6),
         (&[0x10, 0x06, 0x01], 7),
+        (&[0x10, 0x06, 0x02], 7),
         (&[0x10, 0x06, 0x03, 0x03], 7),
     ];
     for (header, answer) in headers {

@@ -12,7 +12,7 @@ use reference::{is_real_time, reports, Report};
 use crate::kit::less_real_time;
 
 /// Lengths of streams to be cut.
-const LENGTHS: [usize; 12] = [0, 1, 2, 3, 15, 16, 17, 275, 351, 1_000, 4_097, 20_000];
+const LENGTHS: [usize; 13] = [0, 1, 2, 3, 15, 16, 17, 43, 275, 351, 1_000, 4_097, 20_000];
 
 #[test]
 fn a_seed_always_makes_the_same_cuts_and_stream() {
@@ -129,7 +129,12 @@ fn kinds_of_streams() {
                 "masters" => found.iter().all(|report| report.detail == 3),
                 "dumps" => found
                     .iter()
-                    .all(|report| [1, 3, 13].contains(&report.detail)),
+                    .all(|report| [1, 2, 3, 13].contains(&report.detail)),
+                "splits" => {
+                    // The longest of a wrong length have 118 bytes behind the opcode.
+                    let split = |report: &Report| stream[report.start + 3] == 0x02;
+                    found.iter().all(split) && stream.len() <= 20 * 123
+                }
                 "many starts" | "of a seed" => true,
                 _ => false,
             };
@@ -144,6 +149,7 @@ fn kinds_of_streams() {
             "a dump in a dump" => &[0, 3],
             "many starts" => &[2, 3, 4],
             "edits" => &[0, 8, 11, 12],
+            "splits" => &[0, 7, 11],
             "noisy dumps" | "masters" | "dumps" => &[0],
             _ => &[0, 2, 3, 4, 5, 6, 7, 8, 9, 10, 11, 12],
         };
@@ -175,5 +181,5 @@ fn streams_reach_both_sides_of_the_room() {
         }
     }
     assert!(found.contains(&(349, 0)) && found.contains(&(349, 10)));
-    assert_eq!(longer, [1, 3, 6, 11, 13].into_iter().collect());
+    assert_eq!(longer, [1, 2, 3, 6, 11, 13].into_iter().collect());
 }

@@ -10,12 +10,12 @@ use reference::streams::plans::pair;
 use reference::streams::{inputs, stream, Random, CYCLE};
 use reference::{listing, plan_files};
 
-use crate::kit::{bass, dump, edit_message, p_with, with_real_time, P};
+use crate::kit::{bass, dump, edit_message, p_with, with_real_time, P, SPLIT};
 use crate::plan_model;
 
 /// A dump of a patch.
 fn dumped(patch: &[u8]) -> Vec<u8> {
-    dump(0x01, 7, patch.try_into().unwrap())
+    dump(0x01, 7, patch)
 }
 
 /// The command says this of two files, whether for the list or for its lines.
@@ -160,6 +160,7 @@ fn files_with_other_messages() {
     master[..5].copy_from_slice(&[0xF0, 0x10, 0x06, 0x03, 0x03]);
     master[350] = 0xF7;
     says_of(&master, &not("0 351 0 3 0 0"));
+    says_of(&dump(0x02, 0, &SPLIT), &not("0 43 0 2 0 0"));
 
     // The second message is told whatever it is, if the first is good.
     let two = |second: &[u8]| [&good[..], second].concat();

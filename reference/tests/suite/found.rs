@@ -104,10 +104,10 @@ fn bus_edit(bytes: [u8; 4], refusal: Outcome) {
 }
 
 /// A message gets this refusal from the walk, from reading with any buffer, and in a stream.
-fn reads(message: &[u8], refusal: Outcome) {
+pub fn reads(message: &[u8], refusal: Outcome) {
     let (end, noise) = (message.len(), model::noise(message));
     assert_eq!(walk(message, 0), noisy(noise, reported(0, end, refusal)));
-    for length in [0, 134, 172] {
+    for length in [0, 18, 134, 172] {
         let mut buffer = [0xA5; 172];
         let expected = Reading {
             start: 0,

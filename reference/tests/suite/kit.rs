@@ -16,6 +16,19 @@ pub fn p_with(place: usize, bytes: &[u8]) -> [u8; 134] {
     patch
 }
 
+/// A split named `KEYS+B`: patches 12 and 99; the left zone to 60, twelve lower and sent; the right
+/// zone to 61, twelve higher; the balance at -31; voices 6/0.
+pub const SPLIT: [u8; 18] = [
+    0x0B, 0x05, 0x19, 0x13, 0x2B, 0x02, 0, 0, 12, 99, 60, 0xF4, 1, 61, 12, 0, 0xE1, 2,
+];
+
+/// The same with this byte at a place.
+pub fn split_with(place: usize, byte: u8) -> [u8; 18] {
+    let mut split = SPLIT;
+    split[place] = byte;
+    split
+}
+
 /// P named `BASS 1  `.
 pub fn bass() -> [u8; 134] {
     let mut patch = P;
@@ -111,11 +124,11 @@ pub const fn reading_outcome(reading: &Reading) -> Outcome {
     }
 }
 
-/// A patch dump with its sum, untested, for building messages with faults.
-pub fn dump(opcode: u8, second: u8, patch: &[u8; 134]) -> Vec<u8> {
+/// A dump of packed bytes with their sum, untested, for building messages with faults.
+pub fn dump(opcode: u8, second: u8, packed: &[u8]) -> Vec<u8> {
     let mut message = vec![0xF0, 0x10, 0x06, opcode, second];
-    message.extend(patch.iter().flat_map(|byte| [byte % 16, byte / 16]));
-    let sum: u32 = patch.iter().map(|&byte| u32::from(byte)).sum();
+    message.extend(packed.iter().flat_map(|byte| [byte % 16, byte / 16]));
+    let sum: u32 = packed.iter().map(|&byte| u32::from(byte)).sum();
     message.extend([(sum % 128) as u8, 0xF7]);
     message
 }
@@ -136,6 +149,7 @@ pub fn record(input: &[u8], place: usize) -> (Reading, Vec<u8>) {
     let reading = read(input, place, &mut buffer);
     let length = match (reading.answer, reading.detail) {
         (0, 0x01 | 0x0D) => 134,
+        (0, 0x02) => 18,
         (0, 0x03) => 172,
         _ => 0,
     };

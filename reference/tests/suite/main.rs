@@ -27,6 +27,7 @@ mod programs;
 mod refusals;
 mod round_trips;
 mod shortest;
+mod splits;
 mod streams;
 mod table;
 mod undamaged;

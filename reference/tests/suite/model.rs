@@ -1,5 +1,5 @@
-//! Document 01 once more, with document 02's destinations, values and noise, as slowly and plainly
-//! as it can be said, to hold the quick code against.
+//! Document 01 once more, with document 02's destinations, values, noise and splits, as slowly and
+//! plainly as it can be said, to hold the quick code against.
 
 /// The condensed line of document 01 for bytes 8 to 85.
 const LINE: &str = "8:48:2 9:0:6 10:5:6 11:3:6 12:7:2 13:6:2 14:10:6 15:15:6 16:13:6 17:17:2 \
@@ -17,13 +17,35 @@ const AMOUNTS: [u8; 18] = [
 /// The last destination of Table 3, Portamento Time.
 const LAST_DESTINATION: u8 = 32;
 
+/// 003's Appendix D in the same form. The parameter column is empty for bytes 0 to 9.
+const SPLIT_LINE: &str = "0-5::6 6::6 7::6 8::7 9::7 10:0:7 11:1:signed 12:2:1 13:3:7 \
+    14:4:signed 15:5:1 16:6:signed 17:7:2";
+
 /// Parameter, least and greatest value of a byte place.
 pub type Field = (Option<u8>, i16, i16);
 
 /// The fields of all 134 places, as the papers tell them.
 pub fn fields() -> Vec<Field> {
     let mut fields = vec![(None, 0, 63); 8];
-    for entry in LINE.split_whitespace() {
+    push_line(LINE, &mut fields);
+    fields.extend(AMOUNTS.map(|parameter| (Some(parameter), -64, 63)));
+    for _ in 0..10 {
+        let destination = (None, 0, i16::from(LAST_DESTINATION));
+        fields.extend([(None, 0, 20), (None, -64, 63), destination]);
+    }
+    fields
+}
+
+/// The fields of all 18 places of a split.
+pub fn split_fields() -> Vec<Field> {
+    let mut fields = Vec::new();
+    push_line(SPLIT_LINE, &mut fields);
+    fields
+}
+
+/// Adds the fields of a line, whose places go on from those so far.
+fn push_line(line: &str, fields: &mut Vec<Field>) {
+    for entry in line.split_whitespace() {
         let [places, parameters, range] = entry.split(':').collect::<Vec<_>>()[..] else {
             panic!("{entry}");
         };
@@ -34,17 +56,13 @@ pub fn fields() -> Vec<Field> {
                 None => (0, (1 << range.parse::<u32>().unwrap()) - 1),
             },
         };
-        for (place, parameter) in span(places).zip(span(parameters)) {
+        let mut parameters = (!parameters.is_empty()).then(|| span(parameters));
+        for place in span(places) {
             assert_eq!(usize::from(place), fields.len());
-            fields.push((Some(parameter), least, greatest));
+            let parameter = parameters.as_mut().map(|span| span.next().unwrap());
+            fields.push((parameter, least, greatest));
         }
     }
-    fields.extend(AMOUNTS.map(|parameter| (Some(parameter), -64, 63)));
-    for _ in 0..10 {
-        let destination = (None, 0, i16::from(LAST_DESTINATION));
-        fields.extend([(None, 0, 20), (None, -64, 63), destination]);
-    }
-    fields
 }
 
 /// `50-55` or `48`.
@@ -58,10 +76,24 @@ pub fn has_sign(place: usize) -> bool {
     place == 19 || (86..=103).contains(&place) || (0..10).any(|bus| place == 105 + 3 * bus)
 }
 
+/// The same of a split: both transposes and the balance.
+pub fn split_has_sign(place: usize) -> bool {
+    [11, 14, 16].contains(&place)
+}
+
 /// The value of a byte stored at a place: with its sign where the field has one, else as it stands.
 pub fn value(place: usize, stored: u8) -> i16 {
+    signed(has_sign(place), stored)
+}
+
+/// The same in a split.
+pub fn split_value(place: usize, stored: u8) -> i16 {
+    signed(split_has_sign(place), stored)
+}
+
+fn signed(has_sign: bool, stored: u8) -> i16 {
     let value = i16::from(stored);
-    if has_sign(place) && value >= 128 {
+    if has_sign && value >= 128 {
         value - 256
     } else {
         value
@@ -70,8 +102,16 @@ pub fn value(place: usize, stored: u8) -> i16 {
 
 /// Whether the range at a place has the value of a byte.
 pub fn allows(fields: &[Field], place: usize, stored: u8) -> bool {
-    let (_, least, greatest) = fields[place];
-    (least..=greatest).contains(&value(place, stored))
+    contains(fields[place], value(place, stored))
+}
+
+/// The same in a split.
+pub fn split_allows(fields: &[Field], place: usize, stored: u8) -> bool {
+    contains(fields[place], split_value(place, stored))
+}
+
+fn contains((_, least, greatest): Field, value: i16) -> bool {
+    (least..=greatest).contains(&value)
 }
 
 /// Answer, detail and value.
@@ -127,6 +167,7 @@ fn judge(fields: &[Field], message: &[u8]) -> Judged {
     let opcode = message[3];
     let length = match opcode {
         0x01 | 0x0D => 275,
+        0x02 => 43,
         0x03 => 351,
         0x06 => 7,
         0x0B => 9,
@@ -139,6 +180,7 @@ fn judge(fields: &[Field], message: &[u8]) -> Judged {
     let place = fields.iter().position(|field| field.0 == Some(second));
     let allowed = match opcode {
         0x01 => second <= 99,
+        0x02 => second <= 49,
         0x03 => second == 3,
         0x06 => place.is_some(),
         0x0B => second <= 9,
@@ -190,9 +232,24 @@ fn dump(fields: &[Field], opcode: u8, data: &[u8], sum: u8) -> Option<Judged> {
     if total % 128 != u32::from(sum) {
         return Some((10, 0, 0));
     }
-    if opcode == 0x03 {
-        return None;
+    match opcode {
+        0x02 => split(&packed),
+        0x03 => None,
+        _ => patch(fields, &packed),
     }
+}
+
+fn split(packed: &[u8]) -> Option<Judged> {
+    let fields = split_fields();
+    for (place, &stored) in packed.iter().enumerate() {
+        if !split_allows(&fields, place, stored) {
+            return Some((11, place, split_value(place, stored)));
+        }
+    }
+    None
+}
+
+fn patch(fields: &[Field], packed: &[u8]) -> Option<Judged> {
     for (place, &stored) in packed.iter().enumerate() {
         if !allows(fields, place, stored) {
             return Some((11, place, value(place, stored)));

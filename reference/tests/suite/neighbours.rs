@@ -8,7 +8,7 @@ use reference::streams::{inputs, stream, Random};
 use reference::{is_real_time, reports, show_name, walk, write_master, write_patch, Outcome};
 
 use crate::kit::{
-    bass, found, glide, outcome, record, report, report_outcome, with_sum, written, P,
+    bass, found, glide, outcome, record, report, report_outcome, with_sum, written, P, SPLIT,
 };
 use crate::model;
 use crate::undamaged::{by_turns, dumps, placed, Undamaged, DATA};
@@ -401,6 +401,25 @@ fn an_edit_begun_in_a_master_is_accepted() {
     let found: Vec<_> = reports(&dump).collect();
     assert_eq!(found, [report(0, 344, 3, 0), report(344, 351, 0, 6)]);
     assert_eq!(record(&dump, 344).0.bytes, [0x05, 0x36, 0, 0]);
+}
+
+#[test]
+fn a_split_begun_in_a_master_is_accepted() {
+    let mut master = [0; 172];
+    master[152..154].copy_from_slice(&[0x60, 0x52]);
+    master[154..].copy_from_slice(&SPLIT);
+    // With this the bytes before the split add nothing to the sum.
+    master[0] = 0x4E;
+    let mut dump = written(|out| write_master(&master, out));
+    assert_eq!(dump[310..315], [0x06, 0x02, 0x05, 0x0B, 0x00]);
+    assert_eq!(dump[347..], [0x02, 0x00, 0x35, 0xF7]);
+    let bytes = [0xF0, 0x10];
+    Damage::ReplaceTwo { at: 308, bytes }.apply(&mut dump);
+    let found: Vec<_> = reports(&dump).collect();
+    assert_eq!(found, [report(0, 308, 3, 0), report(308, 351, 0, 2)]);
+    let (reading, packed) = record(&dump, 308);
+    assert_eq!(reading.bytes, [5, 0, 0, 0]);
+    assert_eq!(packed, SPLIT);
 }
 
 // What makes the damages.

@@ -123,7 +123,7 @@ fn dense_and_sparse_in_messages_of_every_kind() {
         like.any(|told| told == (answer, every))
     };
     for every in [1, 2, 3, 16, 17, 31] {
-        for opcode in [0x01, 0x03, 0x06, 0x0B, 0x0D] {
+        for opcode in [0x01, 0x02, 0x03, 0x06, 0x0B, 0x0D] {
             // An edit is too short for sparse ones.
             let short = [0x06, 0x0B].contains(&opcode) && every > 3;
             assert_eq!(accepted(opcode, every), !short, "{opcode} {every}");

@@ -1,4 +1,4 @@
-//! Messages of other machines, and those of this one that the desk doesn't file.
+//! Messages of other machines, and those of these that the desk doesn't file.
 
 use reference::reports;
 
@@ -113,7 +113,7 @@ fn universal() {
 
 #[test]
 fn opcodes_left_out() {
-    let messages: [&[u8]; 9] = [
+    let messages: [&[u8]; 7] = [
         // 000: request data, group mode, set bank, unlock bank, store edit buffer.
         &[0x04, 0x01, 0x05],
         &[0x07, 0x02, 0x00],
@@ -123,9 +123,6 @@ fn opcodes_left_out() {
         // 003: single patch request, quick edit.
         &[0x00, 0x05],
         &[0x05],
-        // 000's dummy split and 003's split, nibbles and sum.
-        &[&[0x02][..], &[0; 36]].concat(),
-        &[&[0x02, 0x00][..], &[0; 36], &[0x00]].concat(),
     ];
     for inside in messages {
         let inside = [&[0x10, 0x06], inside].concat();
@@ -142,6 +139,9 @@ fn lengths_of_the_matrix_6() {
         answers(&message(&[0x10, 0x06, 0x06, 0x2A, 0x05, 0x2F])),
         [7]
     );
+    // 000's dummy split, which has no number and no sum; 003 has both.
+    let dummy = [&[0x10, 0x06, 0x02], &[0x00; 36][..]].concat();
+    assert_eq!(answers(&message(&dummy)), [7]);
     // 000's 0DH without the zero that 001 has.
     let buffer = [&[0x10, 0x06, 0x0D], &[0x00; 268][..], &[0x00]].concat();
     assert_eq!(answers(&message(&buffer)), [7]);

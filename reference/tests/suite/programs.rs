@@ -106,3 +106,28 @@ fn the_table_program() {
     assert_eq!(lines[103], "103 91 -64 63");
     assert_eq!(lines[133], "133 - 0 32");
 }
+
+#[test]
+fn the_table_program_with_splits() {
+    let output = Command::new(env!("CARGO_BIN_EXE_reference-table"))
+        .arg("--splits")
+        .output()
+        .unwrap();
+    assert!(output.status.success());
+    let expected = "0 - 0 63\n1 - 0 63\n2 - 0 63\n3 - 0 63\n4 - 0 63\n5 - 0 63\n6 - 0 63\n\
+        7 - 0 63\n8 - 0 127\n9 - 0 127\n10 0 0 127\n11 1 -32 31\n12 2 0 1\n13 3 0 127\n\
+        14 4 -32 31\n15 5 0 1\n16 6 -32 31\n17 7 0 3\n";
+    assert_eq!(String::from_utf8(output.stdout).unwrap(), expected);
+}
+
+#[test]
+fn the_table_program_refuses_other_arguments() {
+    for arguments in [&["--patches"][..], &["--splits", "--splits"], &[""]] {
+        let output = Command::new(env!("CARGO_BIN_EXE_reference-table"))
+            .args(arguments)
+            .output()
+            .unwrap();
+        assert!(!output.status.success() && output.stdout.is_empty());
+        assert!(output.stderr.starts_with(b"usage: "));
+    }
+}

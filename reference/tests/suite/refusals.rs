@@ -38,7 +38,7 @@ fn a_message_with_every_fault_mended_in_turn() {
     let mut message = dump(0x01, 100, &twice_bad());
     message[1] = 0x41;
     message[2] = 0x02;
-    message[3] = 0x02;
+    message[3] = 0x05;
     message[273] ^= 1;
     message[200] |= 0x40;
     message[150] |= 0x10;

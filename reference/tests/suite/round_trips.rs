@@ -3,7 +3,7 @@
 use reference::streams::{inputs, stream, Random, CYCLE};
 use reference::{
     nibbles, reports, test_patch, write_bank, write_bus_edit, write_edit, write_edit_buffer,
-    write_master, write_patch, BankOutcome, Reading,
+    write_master, write_patch, write_split, BankOutcome, Reading,
 };
 
 use crate::kit::{
@@ -15,6 +15,7 @@ fn rewritten(reading: &Reading, packed: &[u8]) -> Vec<u8> {
     let [a, b, c, d] = reading.bytes;
     written(|out| match reading.detail {
         0x01 => write_patch(a, packed, out),
+        0x02 => write_split(a, packed, out),
         0x03 => write_master(packed, out),
         0x06 => write_edit(a, b, out),
         0x0B => write_bus_edit(a, b, c, d, out),
@@ -41,6 +42,40 @@ fn a_patch_written_and_read_back_is_the_same_patch() {
         assert_eq!(reading_outcome(&reading), outcome(0, 0x0D));
         assert_eq!(reading.bytes, [0; 4]);
         assert_eq!(packed, patch);
+    }
+}
+
+#[test]
+fn a_split_written_and_read_back_is_the_same_split() {
+    let mut random = Random::new(26);
+    for round in 0..20_000 {
+        let split = inputs::good_split(&mut random);
+        let number = (round % 50) as u8;
+        let dump = written(|out| write_split(number, &split, out));
+        assert_eq!(dump.len(), 43);
+        let (reading, packed) = record(&dump, 0);
+        assert_eq!((reading.start, reading.end), (0, 43));
+        assert_eq!(reading_outcome(&reading), outcome(0, 2));
+        assert_eq!(reading.bytes, [number, 0, 0, 0]);
+        assert_eq!(packed, split);
+    }
+}
+
+#[test]
+fn a_split_is_read_from_the_middle_of_any_stream() {
+    let mut random = Random::new(27);
+    for seed in 0..4 * CYCLE {
+        let split = inputs::good_split(&mut random);
+        let number = random.byte_within(0..=49);
+        let dump = written(|out| write_split(number, &split, out));
+        let (before, behind) = (stream(seed), stream(seed + 1));
+        let start = before.len();
+        let input = [before, dump, behind].concat();
+        let found = reports(&input).find(|found| found.start >= start);
+        assert_eq!(found, Some(report(start, start + 43, 0, 2)), "seed {seed}");
+        let (reading, packed) = record(&input, start);
+        assert_eq!(reading.bytes, [number, 0, 0, 0]);
+        assert_eq!(packed, split);
     }
 }
 

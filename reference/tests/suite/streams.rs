@@ -5,8 +5,8 @@ use std::collections::BTreeSet;
 use reference::streams::damage::{damageable, Damage};
 use reference::streams::{inputs, kind_of, stream, Random, CYCLE};
 use reference::{
-    apply_bus_edit, apply_edit, nibbles, reports, test_patch, walk, write_bank, write_patch,
-    Outcome, Report,
+    apply_bus_edit, apply_edit, nibbles, reports, test_patch, test_split, walk, write_bank,
+    write_patch, Outcome, Report,
 };
 
 use crate::kit::{less_real_time, outcome, report_outcome, written, P};
@@ -25,7 +25,7 @@ fn consecutive_seeds_cover_every_kind_and_size() {
     for from in [0, 57, 1_000_000] {
         let seeds = from..from + CYCLE;
         let kinds: BTreeSet<_> = seeds.clone().map(kind_of).collect();
-        assert_eq!(kinds.len(), 41);
+        assert_eq!(kinds.len(), 46);
         let lengths: Vec<_> = seeds.map(|seed| stream(seed).len()).collect();
         for size in [65_535, 65_536, 65_537] {
             assert_eq!(lengths.iter().filter(|&&length| length == size).count(), 1);
@@ -48,7 +48,7 @@ fn every_answer_of_the_walk_is_met() {
         }
     }
     assert_eq!(answers, [0].into_iter().chain(2..=12).collect());
-    assert_eq!(opcodes, [1, 3, 6, 11, 13].into_iter().collect());
+    assert_eq!(opcodes, [1, 2, 3, 6, 11, 13].into_iter().collect());
 }
 
 #[test]
@@ -176,7 +176,7 @@ fn refused_dumps(kind: &str) -> BTreeSet<(u8, u8, usize)> {
 #[test]
 fn streams_meet_the_refusals_of_exchanged_neighbours() {
     let found = refused_dumps("neighbours exchanged");
-    for (opcode, last_nibble) in [(0x01, 267), (0x0D, 267), (0x03, 343)] {
+    for (opcode, last_nibble) in [(0x01, 267), (0x0D, 267), (0x02, 35), (0x03, 343)] {
         assert!(found.contains(&(opcode, 9, last_nibble)));
         assert!(found.contains(&(opcode, 10, 0)));
     }
@@ -196,6 +196,9 @@ fn streams_meet_the_refusals_of_nibble_pairs() {
         assert_eq!(count(opcode, 10), 1);
         assert!(count(opcode, 11) > 10);
     }
+    assert!(count(0x02, 9) > 5);
+    assert_eq!(count(0x02, 10), 1);
+    assert!(count(0x02, 11) > 5);
     // A master has no field test.
     assert!(count(0x03, 9) > 10);
     assert_eq!(count(0x03, 10), 1);
@@ -203,20 +206,21 @@ fn streams_meet_the_refusals_of_nibble_pairs() {
 }
 
 #[test]
-fn streams_begin_edits_inside_dumps() {
+fn streams_begin_edits_and_splits_inside_dumps() {
     let mut found = BTreeSet::new();
     for pair in reports_in("nibble pair replaced").windows(2) {
-        let [(outer, dump), (inner, edit)] = pair else {
+        let [(outer, dump), (inner, begun)] = pair else {
             unreachable!("windows of two");
         };
         let inside = outer.answer == 3 && outer.end == inner.start;
-        if let ([_, _, _, around, ..], [0xF0, 0x10, 0x06, opcode @ (0x06 | 0x0B), ..], true) =
-            (&dump[..], &edit[..], inside)
+        if let ([_, _, _, around, ..], [0xF0, 0x10, 0x06, opcode, ..], true) =
+            (&dump[..], &begun[..], inside)
         {
             found.insert((*around, *opcode, inner.answer));
         }
     }
-    for opcode in [0x06, 0x0B] {
+    assert!(found.contains(&(0x03, 0x02, 11)));
+    for opcode in [0x02, 0x06, 0x0B] {
         // In a master it can be accepted; in a patch its length is wrong.
         assert!(found.contains(&(0x03, opcode, 0)));
         assert!(found.contains(&(0x01, opcode, 7)) && found.contains(&(0x0D, opcode, 7)));
@@ -296,18 +300,114 @@ fn edits_reach_every_side_that_seven_bits_can() {
     assert_eq!(buses, of_buses);
 }
 
+/// The sides on which dumps with these opcodes are out of range, in the streams of many seeds.
+fn sides_in_streams(opcodes: &[u8], fields: &[Field]) -> BTreeSet<Side> {
+    let mut found = BTreeSet::new();
+    for seed in 0..100 * CYCLE {
+        let input = stream(seed);
+        for report in reports(&input).filter(|report| report.answer == 11) {
+            let message = less_real_time(&input[report.start..report.end]);
+            if opcodes.contains(&message[3]) {
+                found.extend(side(fields, report_outcome(&report)));
+            }
+        }
+    }
+    found
+}
+
 #[test]
 fn dumps_in_streams_reach_every_side_of_every_field() {
     let fields = model::fields();
-    let mut found = BTreeSet::new();
-    for seed in 0..100 * CYCLE {
-        for report in reports(&stream(seed)) {
-            // Edits are shorter.
-            let dump = report.end - report.start >= 275;
-            found.extend(side(&fields, report_outcome(&report)).filter(|_| dump));
+    let found = sides_in_streams(&[0x01, 0x0D], &fields);
+    assert_eq!(found, every_side(&fields));
+}
+
+/// The sides of a split's fields: above everywhere, below where there is a sign.
+fn every_split_side() -> BTreeSet<Side> {
+    let above = (0..18).map(|place| (place, false));
+    let below = (0..18).filter(|&place| model::split_has_sign(place));
+    above.chain(below.map(|place| (place, true))).collect()
+}
+
+#[test]
+fn good_and_bad_splits_are_what_they_say() {
+    let fields = model::split_fields();
+    let mut random = Random::new(47);
+    let (mut lengths, mut numbers) = (BTreeSet::new(), BTreeSet::new());
+    let (mut lent, mut one) = (BTreeSet::new(), BTreeSet::new());
+    for _ in 0..20_000 {
+        assert_eq!(test_split(&inputs::good_split(&mut random)), outcome(0, 0));
+        let several = inputs::out_of_range_split(&mut random);
+        assert_eq!(test_split(&several).answer, 11);
+        let split = inputs::one_out_of_range_split(&mut random);
+        one.extend(side(&fields, test_split(&split)));
+        let outside = |&place: &usize| !model::split_allows(&fields, place, split[place]);
+        assert_eq!((0..18).filter(outside).count(), 1);
+        let split = inputs::split(&mut random);
+        lengths.insert(split.len());
+        lent.extend(side(&fields, test_split(&split)));
+        numbers.insert(inputs::split_number(&mut random));
+    }
+    assert!(lengths.is_superset(&[0, 17, 18, 19, 36].into_iter().collect()));
+    assert_eq!(numbers, (0..=255).collect());
+    assert_eq!(one, every_split_side());
+    assert_eq!(lent, every_split_side());
+}
+
+#[test]
+fn splits_in_streams_reach_every_side_of_every_field() {
+    let found = sides_in_streams(&[0x02], &model::split_fields());
+    assert_eq!(found, every_split_side());
+}
+
+/// Lengths less real time and answers of the splits in streams of a kind.
+fn splits_in(kind: &str) -> BTreeSet<(usize, u8)> {
+    let found = reports_in(kind).into_iter();
+    let splits = found.filter(|(_, message)| message.starts_with(&[0xF0, 0x10, 0x06, 0x02]));
+    let told = splits.map(|(report, message)| (message.len(), report.answer));
+    told.collect()
+}
+
+#[test]
+fn streams_have_splits_of_every_sort() {
+    for (kind, met) in [
+        ("split", &[(43, 0)][..]),
+        ("split nibble", &[(42, 7), (43, 9), (43, 10), (43, 11)]),
+        ("split out of range", &[(43, 11)]),
+        ("split of a wrong length", &[(41, 7), (42, 7), (44, 7)]),
+        ("dummy splits", &[(41, 7)]),
+        ("number not allowed", &[(43, 8)]),
+        ("wide data", &[(43, 9)]),
+        ("wrong sum", &[(43, 10)]),
+        ("wrong length", &[(41, 7), (42, 7), (44, 7)]),
+        ("high nibble moved", &[(43, 11)]),
+        ("real time inside", &[(43, 0)]),
+        ("real time in refused", &[(41, 7), (42, 7), (43, 11)]),
+    ] {
+        let found = splits_in(kind);
+        for split in met {
+            assert!(found.contains(split), "{kind} {split:?}");
         }
     }
-    assert_eq!(found, every_side(&fields));
+    for kind in ["cut", "interrupted"] {
+        let found = splits_in(kind);
+        let broken = found.iter().filter(|told| [2, 3].contains(&told.1));
+        assert!(broken.count() > 10, "{kind}");
+    }
+}
+
+#[test]
+fn dummy_splits_come_fifty_at_a_time() {
+    let most = (0..30 * CYCLE)
+        .filter(|&seed| kind_of(seed) == "dummy splits")
+        .map(|seed| {
+            let input = stream(seed);
+            let answers: Vec<u8> = reports(&input).map(|report| report.answer).collect();
+            let runs = answers.chunk_by(|one, other| one == other);
+            runs.filter(|run| run[0] == 7).map(<[u8]>::len).max()
+        })
+        .max();
+    assert!(most.flatten().is_some_and(|most| most >= 50));
 }
 
 #[test]

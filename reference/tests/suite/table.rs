@@ -1,13 +1,19 @@
-//! The field table and its rule.
+//! The field tables of a patch and of a split, and their rules.
 
-use reference::table::ROWS;
-use reference::{parameter_of, place_of};
+use reference::table::{Row, ROWS};
+use reference::{parameter_of, place_of, splits};
 
 use crate::model;
 
+/// Both tables.
+fn tables() -> [&'static [Row]; 2] {
+    [&ROWS, &splits::ROWS]
+}
+
 #[test]
 fn each_row_stands_at_its_place_and_makes_a_range() {
-    for (place, row) in ROWS.iter().enumerate() {
+    let rows = tables().map(|table| table.iter().enumerate());
+    for (place, row) in rows.into_iter().flatten() {
         assert_eq!(usize::from(row.place), place);
         assert!(row.least <= row.greatest, "{row:?}");
         assert!(!row.name.is_empty());
@@ -32,7 +38,7 @@ fn parameters_and_bytes_8_to_103_match_one_to_one() {
 
 #[test]
 fn a_byte_and_the_byte_128_away_are_never_both_allowed() {
-    for row in &ROWS {
+    for row in tables().concat() {
         let range = row.least..=row.greatest;
         for byte in 0..=127_u8 {
             let both =
@@ -69,4 +75,21 @@ fn the_condensed_line_of_document_01_says_the_same() {
         assert_eq!(i16::from(row.least), least, "{row:?}");
         assert_eq!(i16::from(row.greatest), greatest, "{row:?}");
     }
+}
+
+#[test]
+fn the_splits_of_document_003() {
+    let fields = model::split_fields();
+    assert_eq!(fields.len(), 18);
+    for (row, (parameter, least, greatest)) in splits::ROWS.iter().zip(fields) {
+        assert_eq!(row.parameter, parameter, "{row:?}");
+        assert_eq!(i16::from(row.least), least, "{row:?}");
+        assert_eq!(i16::from(row.greatest), greatest, "{row:?}");
+        let has_sign = model::split_has_sign(row.place.into());
+        assert_eq!(row.least < 0, has_sign, "{row:?}");
+    }
+    // Bytes 10 to 17 and the parameters 0 to 7 match one to one.
+    let parameters = splits::ROWS.iter().filter_map(|row| row.parameter);
+    assert!(parameters.eq(0..=7));
+    assert!(splits::ROWS[..10].iter().all(|row| row.parameter.is_none()));
 }

@@ -5,13 +5,13 @@ use std::ops::Range;
 use reference::streams::damage::{low_nibble, Damage};
 use reference::{read, reports, write_edit_buffer, write_patch, Outcome, Reading, Report};
 
-use crate::kit::{bass, reading_outcome, report, reported, written};
+use crate::kit::{bass, dump, reading_outcome, report, reported, written, SPLIT};
 
 /// The number of a patch's data bytes; the checksum stands behind them.
 pub const DATA: usize = 268;
 
 /// The lengths of buffers lent for reading.
-const LENT: [usize; 5] = [0, 133, 134, 172, 200];
+const LENT: [usize; 6] = [0, 18, 133, 134, 172, 200];
 
 /// Those lent in long runs: one byte too short for a patch, and just long enough.
 const FEW: [usize; 2] = [133, 134];
@@ -132,13 +132,14 @@ impl Undamaged {
 /// What stands before and behind a dump: nothing, other messages, messages left open, bytes that an
 /// edit could begin and end with.
 pub fn surroundings() -> [(Vec<u8>, Vec<u8>); 4] {
-    let dump = written(|out| write_patch(98, &bass(), out));
+    let other = written(|out| write_patch(98, &bass(), out));
+    let split = dump(0x02, 49, &SPLIT);
     let edit = [0xF0, 0x10, 0x06, 0x06, 0x15, 0x7F, 0xF7];
     [
         (vec![], vec![]),
         (
-            [&[0x41, 0xF7, 0xFE], &dump[..]].concat(),
-            [&edit, &dump[..]].concat(),
+            [&[0x41, 0xF7, 0xFE], &other[..], &split].concat(),
+            [&edit, &split[..], &other].concat(),
         ),
         (
             vec![0xF0, 0x10, 0x06, 0x01, 0xFE],

@@ -1,5 +1,6 @@
 //! The stored streams, each with the listing expected for it.
 
+use std::collections::BTreeSet;
 use std::fs;
 use std::path::{Path, PathBuf};
 
@@ -7,10 +8,10 @@ use reference::streams::damage::{low_nibble, Damage};
 use reference::streams::inputs::with_active_sensing;
 use reference::{
     apply_bus_edit, apply_edit, check_plan, listing, nibbles, plan_files, reports, show_name,
-    test_patch,
+    test_patch, test_split,
 };
 
-use crate::kit::{bass, less_real_time, outcome, record, report_outcome, P};
+use crate::kit::{bass, less_real_time, outcome, record, report_outcome, P, SPLIT};
 use crate::model;
 
 /// The names of the dumps in most of them.
@@ -165,6 +166,52 @@ fn dumps_hold_the_values_found_in_them() {
         dumps += 1;
     }
     assert_eq!(dumps, 13);
+}
+
+#[test]
+fn splits_are_what_they_say() {
+    let (reading, packed) = record(&vector("split"), 0);
+    assert_eq!(reading.bytes, [7, 0, 0, 0]);
+    assert_eq!(packed, SPLIT);
+
+    let stream = vector("split_edges");
+    let records = reports(&stream).map(|report| record(&stream, report.start));
+    let (readings, splits): (Vec<_>, Vec<_>) = records.unzip();
+    let numbers = readings.iter().map(|reading| reading.bytes);
+    assert!(numbers.eq([[0; 4], [49, 0, 0, 0], [1, 0, 0, 0], [25, 0, 0, 0]]));
+    let fields = model::split_fields();
+    let greatest: Vec<u8> = fields.iter().map(|field| field.2 as u8).collect();
+    let least: Vec<u8> = fields.iter().map(|field| field.1 as u8).collect();
+    assert_eq!(splits, [&[0; 18][..], &greatest, &least, &SPLIT]);
+}
+
+#[test]
+fn refused_splits_hold_the_values_found_in_them() {
+    let stream = vector("splits_refused");
+    let mut places = BTreeSet::new();
+    for report in reports(&stream).filter(|report| report.answer == 11) {
+        let message = less_real_time(&stream[report.start..report.end]);
+        let mut split = [0; 18];
+        nibbles::pack(&message[5..41], &mut split);
+        assert_eq!(test_split(&split), report_outcome(&report));
+        let place = report.detail;
+        assert_eq!(report.value, model::split_value(place, split[place]));
+        places.insert(place);
+    }
+    // Every place but four of the name.
+    assert!(places.into_iter().eq([0].into_iter().chain(5..18)));
+}
+
+#[test]
+fn dummy_splits_are_fifty_of_000s() {
+    let stream = vector("dummy_splits");
+    let (dummies, rest) = stream.as_chunks::<41>();
+    assert_eq!((dummies.len(), rest.len()), (50, 0));
+    for dummy in dummies {
+        assert_eq!(dummy[..4], [0xF0, 0x10, 0x06, 0x02]);
+        assert_eq!(dummy[4..40], [0; 36]);
+        assert_eq!(dummy[40], 0xF7);
+    }
 }
 
 #[test]

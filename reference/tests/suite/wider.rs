@@ -22,7 +22,7 @@ fn slipped(undamaged: &Undamaged, at: usize) -> Report {
         2 => outcome(5, 0),
         // The number stands as the opcode; 0DH then has 01H where its zero should be.
         3 => match number {
-            0x03 | 0x06 | 0x0B => outcome(7, 0),
+            0x02 | 0x03 | 0x06 | 0x0B => outcome(7, 0),
             0x0D => outcome(8, 0),
             _ => outcome(6, 0),
         },
@@ -80,6 +80,14 @@ fn where_a_patch_reads_as_the_header_of_an_edit() {
     assert_eq!(reads_06h_then(0x0B), [53]);
 }
 
+#[test]
+fn where_a_patch_reads_as_the_header_of_a_split() {
+    // A split that ends with the dump has its 06H at 229: F0H, 10H, 06H, 02H, a number, 36 nibbles,
+    // the checksum. That is the high nibble of byte 114, an amount, whose are 0 to 3 and 12 to 15.
+    let indices = reads_06h_then(0x02);
+    assert!(indices.contains(&53) && !indices.contains(&229));
+}
+
 /// Patches whose data read as headers wherever the ranges allow it: as an edit's at byte 26, as a
 /// dump's or another message's in the last bus. The last three have sums that go with one.
 fn headers() -> [[u8; 134]; 6] {
@@ -96,7 +104,7 @@ fn headers() -> [[u8; 134]; 6] {
         patch([0x6F, 0x2B], [6, 0xD6, 0x16]),
         with_sum(patch([0, 0], [6, 0x06, 0x06]), 0x06),
         with_sum(patch([0, 0], [6, 0xF6, 0x16]), 0x10),
-        // 0EH with a patch number, a bank and a unit: of the right length, but not among the five.
+        // 0EH with a patch number, a bank and a unit: of the right length, but not among the six.
         with_sum(patch([0, 0], [6, 0xE6, 0x01]), 0x00),
     ]
 }
@@ -104,7 +112,7 @@ fn headers() -> [[u8; 134]; 6] {
 /// What a message is answered that F0H and 10H begin inside a dump, before these bytes.
 fn begun(behind: &[u8]) -> u8 {
     match behind {
-        [0x06, 0x01 | 0x03 | 0x06 | 0x0B | 0x0D, ..] => 7,
+        [0x06, 0x01 | 0x02 | 0x03 | 0x06 | 0x0B | 0x0D, ..] => 7,
         [0x06, ..] => 6,
         _ => 5,
     }

@@ -7,7 +7,7 @@ use lib.Dec.{eqb, leb, ltb}
 use lib.IntN.{ℤ}
 use lib.ListN.{length}
 use Rattle.ranges.specs.Values.{plus, minus, fromTo}
-use Rattle.ranges.specs.promises.Tables.{TableRule, Goes}
+use Rattle.ranges.specs.promises.Tables.{TableRule, Signs, Apart, Goes}
 use Rattle.fields.specs.Fields.{size, fields, inRange, valueAt, placeOf, parameterOf}
 use Rattle.fields.specs.Parameters.{ranging}
 
@@ -48,12 +48,10 @@ pub record Rule : Type 0 where
   pub bus-source : (b : ℕ) → b < 10 → Goes fields (104 + 3 * b) (plus 0) (plus 20)
   pub bus-amount : (b : ℕ) → b < 10 → Goes fields (105 + 3 * b) (minus 64) (plus 63)
   pub bus-destination : (b : ℕ) → b < 10 → Goes fields (106 + 3 * b) (plus 0) (plus 32)
-  -- The value of every byte, in range or not (02 (vi)): with a sign it is -128..127, without one the byte itself.
-  pub from-zero : (k n : ℕ) → k < size → hasSign k ≡ true → n < 128 → valueAt k n ≡ plus n
-  pub below-zero : (k n : ℕ) → k < size → hasSign k ≡ true → 1 ≤ n → n ≤ 128 → valueAt k (256 - n) ≡ minus n
-  pub without-sign : (k b : ℕ) → k < size → hasSign k ≡ false → valueAt k b ≡ plus b
+  -- The value of every byte, with its sign where the field has one (02 (vi)).
+  pub signs : Signs fields hasSign
   -- What is told of a parameter's range: its values are those between the two, and both are among them.
   pub ranged : (n k b : ℕ) → placeOf n ≡ some k → b < 256 → let r = ranging n in inRange k b ≡ fromTo (r .least) (r .greatest) (valueAt k b)
   pub reached : (n k : ℕ) → placeOf n ≡ some k → let r = ranging n in Reached k (r .least) × Reached k (r .greatest)
   -- No range has both a byte and the one 128 higher: what demand 3 needs.
-  pub apart : (k b : ℕ) → k < size → inRange k b ≡ true → inRange k (b + 128) ≡ true → ⊥
+  pub apart : Apart fields

@@ -3,7 +3,9 @@ use mathlib.Core.Path.{_≡_, refl, sym, ap, subst}
 use mathlib.Core.Bool.{Bool, cond}
 use mathlib.Core.List.{List}
 use Prim.Native.Nat.{ℕ}
+use native.Mathlib.Omega.{arith}
 use lib.ListN.{length}
+use lib.Seq.{take-length}
 use borrow.Author.Needs.{needs}
 use borrow.Author.Tests.{eq-eqb}
 use Rattle.answers.specs.Effect.{Gives}
@@ -19,14 +21,16 @@ whole : (b : List ℕ) → contentBy (length b) b ≡ b
 whole b = ap (λ (t : Bool). cond t b (withoutRealTime b)) (eq-eqb (length b) (length b) refl)
 
 record-content-requires : tie.Need-record-content-requires
-record-content-requires c κs = sym (ap length (whole (c .before .before .before .args .content .now)))
+record-content-requires c κs =
+    let b = c .before .before .before .args .content .now in
+    (omega arith, rw (take-length b) (sym (ap length (whole b))))
 
 returns : tie.Need-returns
 returns c =
     let r = c .before .before in
     let a = r .before .before .before .before .args in
-    subst (λ (l : List ℕ). Gives (recordedAs (judge (framed l)) (a .buffer .now)) (r .record-content .result) (r .record-content .last .1 .1 .0))
-    (whole (a .content .now)) (r .record-content .ensures)
+    subst (λ (l : List ℕ). Gives (recordedAs (judge (framed l)) (a .buffer .now)) (r .record-content .result) (r .record-content .last .1 .1 .1 .0))
+    (whole (a .content .now)) (rw (take-length (a .content .now)) at (r .record-content .ensures))
 
 pub record-kept-spec : {M : Type 1} → statement M
 record-kept-spec = tie.close (tie.spec record-content-requires (λ c. search needs) returns)

@@ -5,7 +5,8 @@ use native.Mathlib.Omega.{arith}
 use borrow.Author.Tests.{eqb-true}
 use Rattle.patch.specs.code.Passes.{InRange}
 use Rattle.fields.proofs.Rules.{name-accepts}
-use Rattle.patch.proofs.Passes.{in-range-more}
+use Rattle.ranges.proofs.Passes.{rows-more}
+use Rattle.fields.specs.Fields.{fields}
 use Rattle.patch.proofs.name_in_range.Statement.{statement}
 use Rattle.patch.proofs.name_in_range.Tie as tie
 
@@ -25,7 +26,7 @@ loop-again-2 : tie.Need-loop-again-2 Inv-loop μ-loop
 loop-again-2 c =
     let l = c .before .before .before .before in
     let here = name-accepts (l .loop .k) _ (omega arith) (c .if1 .left) in
-    (omega arith, λ z. in-range-more (l .before .args .p .now) 0 (l .loop .k) (l .loop .inv .1 z) here)
+    (omega arith, λ z. rows-more fields (l .before .args .p .now) 0 (l .loop .k) (l .loop .inv .1 z) here)
 
 returns : tie.Need-returns Inv-loop μ-loop
 returns c =

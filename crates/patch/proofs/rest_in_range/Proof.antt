@@ -8,7 +8,9 @@ use borrow.Author.Tests.{eqb-true}
 use Rattle.fields.specs.Fields.{fields}
 use Rattle.fields.proofs.Widths.{column}
 use Rattle.patch.specs.code.Passes.{InRange}
-use Rattle.patch.proofs.Passes.{columns-more, in-range-join}
+use Rattle.ranges.proofs.Passes.{rows-join}
+use Rattle.fields.specs.Fields.{fields}
+use Rattle.patch.proofs.Passes.{columns-more}
 use Rattle.patch.proofs.rest_in_range.Statement.{statement}
 use Rattle.patch.proofs.rest_in_range.Tie as tie
 
@@ -58,7 +60,7 @@ returns c =
     let l = c .before in
     let p = l .before .before .before .before .args .p .now in
     let end : l .loop2 .i ≡ 134 = omega arith in
-    λ e. let seen = l .loop2 .inv .2 (eqb-true (l .loop2 .out) 0 e) in in-range-join p 8 120 118 134 (omega arith) (seen .0) (rw end at (seen .1))
+    λ e. let seen = l .loop2 .inv .2 (eqb-true (l .loop2 .out) 0 e) in rows-join fields p 8 120 118 134 (omega arith) (seen .0) (rw end at (seen .1))
 
 pub rest-in-range-spec : {M : Type 1} → statement M
 rest-in-range-spec =

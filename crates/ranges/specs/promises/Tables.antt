@@ -1,15 +1,17 @@
--- What holds of a table as a whole, and of the search for a byte out of range.
+-- What our tables keep, each as a whole; what the search for a byte out of range finds, and what the test of bytes by a table answers.
 use mathlib.Core.Path.{_≡_}
-use mathlib.Core.Bool.{true, false}
+use mathlib.Core.Bool.{Bool, true, false}
 use mathlib.Core.List.{List}
+use mathlib.Core.Logic.{_↔_}
 use mathlib.Core.Option.{none, some}
 use Prim.Native.Nat.{ℕ, _+_, _-_, _≤_, _<_}
 use lib.ListN.{length, getD}
 use lib.IntN.{ℤ}
 use lib.Signed.{leZ}
-use Rattle.answers.specs.Table.{found}
-use Rattle.ranges.specs.Ranges.{Table, placeIn, leastIn, greatestIn, inRow, valueIn, outFrom}
-use Rattle.ranges.specs.Values.{fromTo}
+use Rattle.answers.specs.Effect.{tested}
+use Rattle.answers.specs.Table.{found, outcome, outcomeAt}
+use Rattle.ranges.specs.Ranges.{Table, placeIn, leastIn, greatestIn, inRow, valueIn, outFrom, countedRows}
+use Rattle.ranges.specs.Values.{plus, minus, fromTo}
 
 pub record TableRule (t : Table) : Type 0 where
   -- Each place stands once, at its own row; least and greatest values are bytes.
@@ -24,6 +26,16 @@ pub record TableRule (t : Table) : Type 0 where
 abbrev pub Goes : Table → ℕ → ℤ → ℤ → Type 0
 Goes t k least greatest = (valueIn t k (leastIn t k) ≡ least) × (valueIn t k (greatestIn t k) ≡ greatest)
 
+-- The value of every byte at the places of a table, in range or not (02 (vi)): at those that have a sign it is -128..127, at the others the byte itself.
+pub record Signs (t : Table) (signed : ℕ → Bool) : Type 0 where
+  pub from-zero : (k n : ℕ) → k < length t → signed k ≡ true → n < 128 → valueIn t k n ≡ plus n
+  pub below-zero : (k n : ℕ) → k < length t → signed k ≡ true → 1 ≤ n → n ≤ 128 → valueIn t k (256 - n) ≡ minus n
+  pub without-sign : (k b : ℕ) → k < length t → signed k ≡ false → valueIn t k b ≡ plus b
+
+-- No range has both a byte and the one 128 higher: what the sum misses of one nibble that is replaced, the table sees.
+abbrev pub Apart : Table → Type 0
+Apart t = (k b : ℕ) → k < length t → inRow t k b ≡ true → inRow t k (b + 128) ≡ true → ⊥
+
 -- The place j is the lowest out of range, and v the value of its byte.
 pub record Lowest (t : Table) (k : ℕ) (p : List ℕ) (j : ℕ) (v : ℤ) : Type 0 where
   pub from : k ≤ j
@@ -37,3 +49,9 @@ pub record Lowest (t : Table) (k : ℕ) (p : List ℕ) (j : ℕ) (v : ℤ) : Typ
 pub record LowestOut (t : Table) (k : ℕ) (p : List ℕ) : Type 0 where
   pub some-out : (j : ℕ) (v : ℤ) → outFrom t k p ≡ some (found j v) → Lowest t k p j v
   pub none-out : outFrom t k p ≡ none → (i : ℕ) → k ≤ i → i < k + length p → inRow t i (getD p (i - k) 0) ≡ true
+
+-- The test of n bytes by a table: another count is 7; they pass exactly when each is in its range; 11 tells exactly the lowest that is not, and its value.
+pub record TestedBy (n : ℕ) (t : Table) : Type 0 where
+  pub another-count : (p : List ℕ) → (length p ≡ n → ⊥) → tested (countedRows n (some t) p) ≡ outcome 7 0
+  pub passes : (p : List ℕ) → length p ≡ n → (tested (countedRows n (some t) p) ≡ outcome 0 0) ↔ ((k : ℕ) → k < n → inRow t k (getD p k 0) ≡ true)
+  pub refuses : (p : List ℕ) → length p ≡ n → (j : ℕ) (v : ℤ) → (tested (countedRows n (some t) p) ≡ outcomeAt 11 j v) ↔ Lowest t 0 p j v

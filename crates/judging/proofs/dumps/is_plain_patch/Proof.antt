@@ -11,4 +11,4 @@ returns : tie.Need-returns
 returns c = λ e. (c .enum-told .given .1, eqb-true _ _ e)
 
 pub is-plain-patch-spec : {M : Type 1} → statement M
-is-plain-patch-spec = tie.close (tie.spec (λ c. search needs) (λ c. search needs) returns (λ c e. let z : _≡_ {A = ℕ} 0 1 = cc in absurd (omega arith)))
+is-plain-patch-spec = tie.close (tie.spec (λ c. search needs) returns (λ c e. let z : _≡_ {A = ℕ} 0 1 = cc in absurd (omega arith)))

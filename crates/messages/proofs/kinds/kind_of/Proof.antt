@@ -5,7 +5,7 @@ use Rattle.messages.proofs.Filed.{no-kind}
 use Rattle.messages.proofs.kinds.kind_of.Statement.{statement}
 use Rattle.messages.proofs.kinds.kind_of.Tie as tie
 
-other : tie.Need-returns-6
+other : tie.Need-returns-7
 unfolding kindOf
 other c = sym (no-kind (Unit {0}) kinds _ (c .match .rest) .1)
 
@@ -19,4 +19,5 @@ kind-of-spec =
     (λ c. rw (c .match .keys3))
     (λ c. rw (c .match .keys4))
     (λ c. rw (c .match .keys5))
+    (λ c. rw (c .match .keys6))
     other)
