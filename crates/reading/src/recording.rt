@@ -5,8 +5,8 @@ use crate::walking::report_of;
 ghost use Rattle.answers.specs.Effect.{Gives};
 ghost use Rattle.reading.specs.code.Told.{reads};
 
-// A report, and the bytes that come with its answer: a patch number, or an edit's two or four, as received; zero where the message
-// has none and with every answer but 0.
+// A report, and the bytes that come with its answer: the number of a patch or a split, or an edit's two or four, as received; zero where
+// the message has none and with every answer but 0.
 #[repr(C)]
 pub struct Reading {
     pub report: Report,
