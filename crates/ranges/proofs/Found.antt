@@ -1,18 +1,20 @@
 -- What a search in code found is what its definition finds.
 use mathlib.Core.Path.{_≡_, refl, ap, sym, _∙_}
+use mathlib.Core.Bool.{Bool, true, false, not, _&&_}
 use mathlib.Core.List.{List, [], _∷_}
 use mathlib.Core.Option.{Option, none, some}
 use Prim.Native.Nat.{ℕ}
 use native.Mathlib.Omega.{arith}
+use lib.Dec.{eqb}
 use lib.ListN.{length}
 use borrow.Author.Tests.{eq-eqb}
 use Rattle.answers.specs.declared.Outcome.{Outcome}
-use Rattle.answers.specs.Table.{rowFound, Found, found, outcome}
+use Rattle.answers.specs.Table.{row, rowFound, Found, found, outcome}
 use Rattle.answers.specs.Effect.{tested}
 use Rattle.ranges.specs.Ranges.{Table, outFrom, countedRows}
 use Rattle.ranges.specs.declared.Failed.the-variants.{At, Nowhere}
 use Rattle.ranges.specs.code.Found.{foundAt, lentTable}
-use Rattle.ranges.specs.code.Passes.{AllIn}
+use Rattle.ranges.specs.code.Passes.{nothing, allIn}
 
 pub found-some : (o : Option ℕ) (k : ℕ) → At k ≡ foundAt o → o ≡ some k
 found-some (some j) k e = cc
@@ -42,5 +44,10 @@ module _ (n : ℕ) (p : List ℕ) (l : length p ≡ n) where
   by-table (r ∷ t) z = rw (eq-eqb (length p) n l)
 
 -- So many bytes, none of them out of range, pass.
-pub all-pass : (n : ℕ) (t : Table) (p : List ℕ) → AllIn n t p → outcome 0 0 ≡ tested (countedRows n (some t) p)
-all-pass n t p a = rw (eq-eqb (length p) n (a .counted), a .none-out)
+pub all-pass : (n : ℕ) (t : Table) (p : List ℕ) → allIn n t p ≡ true → outcome 0 0 ≡ tested (countedRows n (some t) p)
+all-pass n t p a = go (eqb (length p) n) (outFrom t 0 p) a
+  where
+    go : (c : Bool) (o : Option Found) → (c && nothing o) ≡ true → outcome 0 0 ≡ tested (row 7 (not c) ∷ rowFound 11 o ∷ [])
+    go true none e = refl
+    go true (some f) e = let z : _≡_ {A = ℕ} 0 1 = cc in absurd (omega arith)
+    go false o e = let z : _≡_ {A = ℕ} 0 1 = cc in absurd (omega arith)

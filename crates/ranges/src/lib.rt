@@ -2,7 +2,6 @@
 use answers::Outcome;
 use answers::WRONG_LENGTH;
 ghost use mathlib.Core.Path.{_≡_};
-ghost use mathlib.Core.Bool.{true};
 ghost use mathlib.Core.List.{[], _∷_};
 ghost use lib.ListN.{getD};
 ghost use Rattle.answers.specs.Effect.{tested};
@@ -10,7 +9,7 @@ ghost use Rattle.answers.specs.Table.{rowFound};
 ghost use Rattle.ranges.specs.Values.{valueOf, valueBy};
 ghost use Rattle.ranges.specs.Ranges.{leastIn, greatestIn, between, inRow, valueIn, outFrom, countedRows};
 ghost use Rattle.ranges.specs.code.Found.{lentTable};
-ghost use Rattle.ranges.specs.code.Passes.{AllIn};
+ghost use Rattle.ranges.specs.code.Passes.{allIn};
 
 // The lowest index or bus at which a test fails.
 pub enum Failed {
@@ -73,9 +72,9 @@ fn value_in(table: &[[u8; 4]], place: usize, b: u8) -> i16
     value_by(row[3] < row[2], b)
 }
 
-// `true` only for so many bytes that each lie in the range of their row: without a branch, so that they are seen at once.
+// So many bytes, each in the range of its row: without a branch, so that they are seen at once.
 pub fn all_in(count: usize, table: &[[u8; 4]], bytes: &[u8]) -> bool
-    ensures { λ r. ⌜ (r ≡ true → AllIn count (now (table .entry)) (now (bytes .entry))) ⌝ }
+    ensures { λ r. ⌜ r ≡ allIn count (now (table .entry)) (now (bytes .entry)) ⌝ }
 {
     if bytes.len() != count {
         return false;
