@@ -1,11 +1,10 @@
 -- The kinds in numbers. A dummy split has 41 bytes, two less than a split; a split has no buses, so their row says nothing.
-use mathlib.Core.Path.{_≡_, refl, sym, ap, _∙_}
-use mathlib.Core.List.{List, [], _∷_, _++_}
-use mathlib.Core.Logic.{_⊎_, inr}
-use Prim.Native.Nat.{ℕ, _+_}
+use mathlib.Core.Path.{_≡_, refl}
+use mathlib.Core.List.{List, [], _∷_}
+use Prim.Native.Nat.{ℕ}
 use native.Mathlib.Omega.{arith}
-use lib.ListN.{length, length-append}
-use Rattle.answers.specs.Table.{answerOf, outcome, refused}
+use lib.ListN.{length}
+use Rattle.answers.specs.Table.{outcome, refused}
 use Rattle.patch.specs.Patch.{halfFrom}
 use Rattle.messages.specs.Kinds.{ofDump, splitPatch, kindOf}
 use Rattle.messages.specs.Judge.{byteAt, judge}

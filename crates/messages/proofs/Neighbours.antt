@@ -16,7 +16,7 @@ use lib.Seq.{append-snoc, getD-at}
 use borrow.Author.Tests.{eqb-true, eqb-false, ltb-true, ltb-false, le-ltb, eq-eqb, ne-eqb}
 use Rattle.answers.specs.declared.Outcome.{Outcome}
 use Rattle.answers.specs.Lists.{All}
-use Rattle.answers.specs.Table.{row, says, outcome, outcomeAt, found, Verdict, refused, unless, first, answerOf}
+use Rattle.answers.specs.Table.{row, says, outcome, outcomeAt, found, refused, unless, first, answerOf}
 use Rattle.answers.proofs.Lists.{all-append, all-left, all-right}
 use Rattle.nibbles.specs.Nibbles.{nibbles, pack, total, sum}
 use Rattle.nibbles.proofs.Laws.{length-nibbles, nibbles-narrow, pack-nibbles, pack-pair, pack-across}

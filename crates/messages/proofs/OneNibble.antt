@@ -13,8 +13,8 @@ use lib.ListN.{length, getD, take, drop, set, length-append}
 use lib.Seq.{append-snoc, length-take-le, split-at, set-at, getD-at}
 use borrow.Author.Tests.{eq-eqb, ne-eqb, le-ltb, eqb-true, eqb-false, ltb-true, ltb-false}
 use Rattle.answers.specs.Lists.{All}
-use Rattle.answers.specs.Table.{Verdict, refused, first, outcome, outcomeAt, found, answerOf}
-use Rattle.answers.proofs.Lists.{all-append, all-left, all-right, all-at}
+use Rattle.answers.specs.Table.{Verdict, refused, first, outcome, outcomeAt, answerOf}
+use Rattle.answers.proofs.Lists.{all-append, all-left, all-right}
 use Rattle.answers.proofs.Rows.{row-silent, row-equal, row-found-silent}
 use Rattle.answers.specs.promises.Decides.{Silent}
 use Rattle.nibbles.specs.Nibbles.{nibbles, pack, total, sum}
@@ -23,7 +23,7 @@ use Rattle.nibbles.proofs.Laws.{Position, at-low, at-high, at-sum, position}
 use Rattle.ranges.specs.Ranges.{Table, outFrom, outBy, valueIn}
 use Rattle.ranges.specs.promises.Tables.{Apart}
 use Rattle.ranges.proofs.Between.{MovedBy}
-use Rattle.ranges.proofs.Runs.{run-bytes, runs-moved}
+use Rattle.ranges.proofs.Runs.{runs-moved}
 use Rattle.fields.specs.Fields.{fields}
 use Rattle.fields.proofs.Rules.{rows, apart as fields-apart}
 use Rattle.splits.specs.Splits.{splitFields}

@@ -1,5 +1,5 @@
 -- Passes over bytes, byte by byte: what a flag that stays clear has shown so far, and what it has shown at the end.
-use mathlib.Core.Path.{_≡_, refl, sym, _∙_}
+use mathlib.Core.Path.{_≡_, refl}
 use mathlib.Core.Bool.{Bool, true, false}
 use mathlib.Core.List.{List}
 use mathlib.Core.Option.{Option, none, some}

@@ -2,9 +2,8 @@
 use mathlib.Core.Path.{_≡_, refl, sym, ap, _∙_}
 use mathlib.Core.Bool.{true}
 use mathlib.Core.List.{List}
-use mathlib.Core.Logic.{_↔_}
 use mathlib.Core.Option.{Option, none, some}
-use Prim.Native.Nat.{ℕ, _+_, _-_, _<_}
+use Prim.Native.Nat.{ℕ, _-_, _<_}
 use native.Mathlib.Omega.{arith}
 use lib.IntN.{ℤ}
 use lib.ListN.{length, getD}
@@ -13,7 +12,7 @@ use Rattle.answers.specs.declared.Outcome.{Outcome}
 use Rattle.answers.specs.Effect.{tested}
 use Rattle.answers.specs.Table.{Found, found, outcome, outcomeAt}
 use Rattle.ranges.specs.Ranges.{Table, inRow, outFrom, countedRows}
-use Rattle.ranges.specs.promises.Tables.{Lowest, TestedBy}
+use Rattle.ranges.specs.promises.Tables.{TestedBy}
 use Rattle.ranges.proofs.Passes.{rows-in}
 use Rattle.ranges.proofs.Runs.{lowest-out, lowest-only}
 

@@ -6,7 +6,7 @@ use lib.Dec.{T, eqb, eqb→eq}
 use lib.IntN.{ℤ}
 use lib.ListN.{length}
 use Rattle.ranges.specs.Ranges.{parameterIn}
-use Rattle.ranges.specs.Values.{plus, minus, valueOf, valueBy}
+use Rattle.ranges.specs.Values.{plus, valueOf, valueBy}
 use Rattle.ranges.specs.promises.Tables.{Goes}
 use Rattle.ranges.proofs.Below.{each, at}
 use Rattle.ranges.proofs.Runs.{narrow-row, rows-apart}

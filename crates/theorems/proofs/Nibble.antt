@@ -1,12 +1,11 @@
 -- A data byte replaced by another leaves data bytes between F0H and F7H, which are one report of a stream; what they come to is known.
 use mathlib.Core.Path.{_≡_, refl, ap, _∙_}
-use mathlib.Core.List.{List, [], _∷_, _++_}
-use Prim.Native.Nat.{ℕ, suc, _+_, _*_, _/_, _<_}
+use mathlib.Core.List.{List, [], _∷_}
+use Prim.Native.Nat.{ℕ, suc, _+_, _*_, _<_}
 use native.Mathlib.Omega.{arith}
 use lib.ListN.{length, set, length-append, length-set}
 use lib.Seq.{set-append-left}
-use Rattle.answers.specs.Lists.{All}
-use Rattle.answers.specs.Table.{Verdict, refused}
+use Rattle.answers.specs.Table.{Verdict}
 use Rattle.answers.proofs.Lists.{all-set}
 use Rattle.answers.proofs.Rows.{row-equal}
 use Rattle.streams.specs.Bytes.{framed}
@@ -16,20 +15,19 @@ use Rattle.messages.specs.declared.kinds.Dump.{Dump}
 use Rattle.messages.specs.declared.kinds.Kind.the-variants.{Dump as ofDump}
 use Rattle.messages.specs.Kinds.{splitPatch, sizeOf, Filed, kindOf}
 use Rattle.messages.specs.Judge.{judge}
-use Rattle.messages.specs.Layout.{dump, message, behindFor}
+use Rattle.messages.specs.Layout.{message, behindFor}
 use Rattle.messages.specs.promises.OneNibble.{AsWritten}
 use Rattle.messages.proofs.OneNibble.{one-nibble}
 use Rattle.messages.proofs.Written.{sound}
 use Rattle.writing.proofs.Laws.{length-dump}
-use Rattle.theorems.specs.Damage.{reportsOfDump}
-use Rattle.theorems.specs.Nibble.{Shows, NibbleShown}
+use Rattle.theorems.specs.Slipped.{OneLine}
+use Rattle.theorems.specs.Nibble.{NibbleShown}
 use Rattle.theorems.proofs.Containment.{one-message, parts}
 
 shown : (k : Dump) → Filed (ofDump k) → (b p : List ℕ) → AsWritten k b p → (i y : ℕ) (v : Verdict)
     → (i < 2 * sizeOf (k .packed) → y < 0x80 → judge (set (message (ofDump k) b p) (5 + i) y) ≡ v)
     → i < 2 * sizeOf (k .packed) → y < 0x80 → (before behind : List ℕ)
-    → let m = message (ofDump k) b p in
-    reportsOfDump before (set m (5 + i) y) behind ≡ report (length before) (length before + length m) v 0 ∷ []
+    → let m = message (ofDump k) b p in OneLine before m (set m (5 + i) y) behind v
 shown k filed b p w i y v told h d before behind =
     let m = message (ofDump k) b p in
     let s = sound (ofDump k) b p filed (w .given) (w .bytes) (w .passes) in

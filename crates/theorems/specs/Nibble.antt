@@ -1,10 +1,9 @@
 -- Document 02 (x): what the listing shows of a dump with one nibble replaced. It is one line, from the dump's F0H to behind its F7H.
 use mathlib.Core.Path.{_≡_}
-use mathlib.Core.List.{List, [], _∷_}
+use mathlib.Core.List.{List}
 use Prim.Native.Nat.{ℕ, _+_, _*_, _/_, _<_}
-use lib.ListN.{length, getD, set}
+use lib.ListN.{getD, set}
 use Rattle.answers.specs.Table.{Verdict, refused}
-use Rattle.streams.specs.Stream.{report}
 use Rattle.splits.specs.Splits.{splitFields}
 use Rattle.messages.specs.declared.kinds.Dump.{Dump}
 use Rattle.messages.specs.declared.kinds.Kind.the-variants.{Dump as ofDump}
@@ -12,17 +11,16 @@ use Rattle.messages.specs.Kinds.{splitPatch, sizeOf, Filed}
 use Rattle.messages.specs.Judge.{byteAt}
 use Rattle.messages.specs.Layout.{message}
 use Rattle.messages.specs.promises.OneNibble.{nibbleVerdict, nibbleRefusal, AsWritten}
-use Rattle.theorems.specs.Damage.{reportsOfDump}
+use Rattle.theorems.specs.Slipped.{OneLine}
 
 -- A dump as our writer writes it, between any bytes, with another data byte y for its data byte i: it has one report, and comes to v.
-abbrev pub Shows : Dump → List ℕ → List ℕ → ℕ → ℕ → Verdict → Type 0
-Shows k b p i y v =
+abbrev pub Replaced : Dump → List ℕ → List ℕ → ℕ → ℕ → Verdict → Type 0
+Replaced k b p i y v =
     let m = message (ofDump k) b p in
-    i < 2 * sizeOf (k .packed) → y < 0x80 → (y ≡ byteAt m (5 + i) → ⊥) → (before behind : List ℕ)
-    → reportsOfDump before (set m (5 + i) y) behind ≡ report (length before) (length before + length m) v 0 ∷ []
+    i < 2 * sizeOf (k .packed) → y < 0x80 → (y ≡ byteAt m (5 + i) → ⊥) → (before behind : List ℕ) → OneLine before m (set m (5 + i) y) behind v
 
 pub record NibbleShown : Type 0 where
   -- Every kind of dump.
-  pub every-dump : (k : Dump) → Filed (ofDump k) → (b p : List ℕ) → AsWritten k b p → (i y : ℕ) → Shows k b p i y (nibbleVerdict k b p i y)
+  pub every-dump : (k : Dump) → Filed (ofDump k) → (b p : List ℕ) → AsWritten k b p → (i y : ℕ) → Replaced k b p i y (nibbleVerdict k b p i y)
   -- A split: always a refusal.
-  pub split : (b p : List ℕ) → AsWritten splitPatch b p → (i y : ℕ) → Shows splitPatch b p i y (refused (nibbleRefusal splitFields i y (getD p (i / 2) 0)))
+  pub split : (b p : List ℕ) → AsWritten splitPatch b p → (i y : ℕ) → Replaced splitPatch b p i y (refused (nibbleRefusal splitFields i y (getD p (i / 2) 0)))

@@ -4,14 +4,18 @@ use mathlib.Core.List.{List, [], _∷_}
 use Prim.Native.Nat.{ℕ, suc, _+_, _-_, _≤_, _<_}
 use lib.ListN.{length, getD}
 use Rattle.answers.specs.declared.Outcome.{Outcome}
-use Rattle.answers.specs.Table.{refused}
+use Rattle.answers.specs.Table.{Verdict, refused}
 use Rattle.streams.specs.Stream.{report}
 use Rattle.messages.specs.promises.Neighbours.{replacedRefusal, exchangedRefusal}
 use Rattle.theorems.specs.Damage.{replaceTwo, exchange, damaged, reportsOfDump, EveryPatchDump}
 
--- The damaged dump e in the place of d has one report, with the refusal o.
+-- The damaged dump e in the place of d has one report, and comes to v.
+abbrev pub OneLine : (before d e behind : List ℕ) → Verdict → Type 0
+OneLine before d e behind v = reportsOfDump before e behind ≡ report (length before) (length before + length d) v 0 ∷ []
+
+-- It is refused by o.
 abbrev pub Shows : (before d e behind : List ℕ) → Outcome → Type 0
-Shows before d e behind o = reportsOfDump before e behind ≡ report (length before) (length before + length d) (refused o) 0 ∷ []
+Shows before d e behind o = OneLine before d e behind (refused o)
 
 -- The dump d between any bytes.
 pub record Slips (before d behind : List ℕ) : Type 0 where

@@ -1,20 +1,15 @@
 -- `record_content` judges, then sees to the room, then packs: each return is a case of `recordedAs`.
-use mathlib.Core.Path.{_≡_, sym, ap, subst, _∙_}
+use mathlib.Core.Path.{_≡_, sym, ap, _∙_}
 use mathlib.Core.List.{List}
 use Prim.Native.Nat.{ℕ, _≤_}
 use native.Mathlib.Omega.{arith}
 use lib.ListN.{length, take}
 use lib.Seq.{length-take-le}
 use borrow.Author.Needs.{needs}
-use Rattle.answers.specs.Effect.{Gives}
-use Rattle.streams.specs.Bytes.{withoutRealTime, framed}
 use Rattle.messages.specs.Kinds.{kindOf}
-use Rattle.messages.specs.Judge.{judge}
 use Rattle.messages.specs.code.Sizes.{packedSize}
 use Rattle.messages.proofs.Accepted.{Accepted}
-use Rattle.judging.specs.declared.Judged.{Judged}
 use Rattle.judging.specs.code.Content.{contentBy}
-use Rattle.judging.specs.code.Judged.{recordedAs}
 use Rattle.judging.proofs.Records.{accepted-so, record-refused, record-short, record-stored, nothing-packed}
 use Rattle.judging.proofs.record_content.Statement.{statement}
 use Rattle.judging.proofs.record_content.Tie as tie

@@ -8,7 +8,7 @@ use Rattle.answers.specs.Effect.{tested}
 use Rattle.answers.specs.Table.{refused, outcome, answerOf}
 use Rattle.patch.specs.Patch.{patchRows}
 use Rattle.splits.specs.Splits.{splitRows}
-use Rattle.messages.specs.Kinds.{aPatch, aSplit, Dump, ofDump, splitPatch, kinds, opcodeOf, kindOf}
+use Rattle.messages.specs.Kinds.{aPatch, aSplit, ofDump, splitPatch, kinds, opcodeOf, kindOf}
 use Rattle.messages.specs.Judge.{byteAt, misnumbered, judge}
 use Rattle.messages.specs.Layout.{messageOf}
 use Rattle.messages.specs.code.Sizes.{lentRows}
