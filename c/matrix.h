@@ -1,5 +1,6 @@
 /* Oberheim Matrix-1000 and Matrix-6R system exclusive dumps: reading, from memory or as they come in,
- * testing, editing and writing, and the edits that turn one patch into another.
+ * testing, editing and writing, and the edits that turn one patch into another; the operations that
+ * configure units, and a model of a unit that is sent them.
  *
  * The face for C and C++ of a library that is proved. The library is libexports.a, which
  * `rt staticlib exports` makes in the repository that this header comes from; `make -C c install`
@@ -36,10 +37,11 @@ enum matrix_answer {
     MATRIX_INTERRUPTED = 3,   /* another status byte stands inside the message */
     MATRIX_OTHER_MAKER = 4,   /* the first byte after F0H is not 10H */
     MATRIX_OTHER_DEVICE = 5,  /* the next is not 06H */
-    MATRIX_OTHER_OPCODE = 6,  /* the opcode is not among the six */
+    MATRIX_OTHER_OPCODE = 6,  /* the opcode is not among the eleven */
     MATRIX_WRONG_LENGTH = 7,  /* of a message, or of a lent patch, split, bank, master or name */
     MATRIX_NOT_ALLOWED = 8,   /* patch number, split number, version, zero of 0DH, parameter, bus,
-                                 name character; a value or amount byte above 127 */
+                                 name character; a value or amount byte above 127; type and number
+                                 of a request, total and ID of a group, bank, ID of a store */
     MATRIX_WIDE_DATA = 9,     /* a data byte above 15; detail: the first one's index in the data */
     MATRIX_WRONG_SUM = 10,    /* the sum byte differs from the computed sum */
     MATRIX_OUT_OF_RANGE = 11, /* a field out of range; detail: the lowest such byte place; value: what
@@ -53,13 +55,32 @@ enum matrix_answer {
 
 /* The opcodes: the detail of a message that is read with answer 0. */
 enum matrix_opcode {
-    MATRIX_OPCODE_PATCH = 0x01,      /* single patch */
-    MATRIX_OPCODE_SPLIT = 0x02,      /* split of a Matrix-6R */
-    MATRIX_OPCODE_MASTER = 0x03,     /* master parameters */
-    MATRIX_OPCODE_EDIT = 0x06,       /* remote edit */
-    MATRIX_OPCODE_BUS_EDIT = 0x0B,   /* matrix modulation edit */
-    MATRIX_OPCODE_EDIT_BUFFER = 0x0D /* patch to edit buffer */
+    MATRIX_OPCODE_PATCH = 0x01,            /* single patch */
+    MATRIX_OPCODE_SPLIT = 0x02,            /* split of a Matrix-6R */
+    MATRIX_OPCODE_MASTER = 0x03,           /* master parameters */
+    MATRIX_OPCODE_REQUEST_DATA = 0x04,     /* request data */
+    MATRIX_OPCODE_EDIT = 0x06,             /* remote edit */
+    MATRIX_OPCODE_GROUP_MODE = 0x07,       /* group mode */
+    MATRIX_OPCODE_SET_BANK = 0x0A,         /* set bank */
+    MATRIX_OPCODE_BUS_EDIT = 0x0B,         /* matrix modulation edit */
+    MATRIX_OPCODE_UNLOCK_BANK = 0x0C,      /* unlock bank */
+    MATRIX_OPCODE_EDIT_BUFFER = 0x0D,      /* patch to edit buffer */
+    MATRIX_OPCODE_STORE_EDIT_BUFFER = 0x0E /* store edit buffer */
 };
+
+/* The types of a request for data. */
+enum matrix_request {
+    MATRIX_REQUEST_ALL = 0,        /* all patches of the current bank, and the master parameters */
+    MATRIX_REQUEST_PATCH = 1,      /* one patch of the current bank, by its number */
+    MATRIX_REQUEST_MASTER = 3,     /* the master parameters */
+    MATRIX_REQUEST_EDIT_BUFFER = 4 /* the edit buffer */
+};
+
+/* The ID in a store message that is for any unit in group mode. */
+#define MATRIX_ANY_UNIT 0x7F
+
+/* The most units in a group, which are numbered from 0. */
+#define MATRIX_GROUP_MOST 6
 
 /* Lengths: of what is lent, and of what is written. */
 #define MATRIX_PATCH_BYTES 134
@@ -72,6 +93,11 @@ enum matrix_opcode {
 #define MATRIX_MASTER_MESSAGE 351
 #define MATRIX_EDIT_MESSAGE 7
 #define MATRIX_BUS_EDIT_MESSAGE 9
+#define MATRIX_REQUEST_DATA_MESSAGE 7
+#define MATRIX_GROUP_MODE_MESSAGE 7
+#define MATRIX_SET_BANK_MESSAGE 6
+#define MATRIX_UNLOCK_BANK_MESSAGE 5
+#define MATRIX_STORE_EDIT_BUFFER_MESSAGE 8
 #define MATRIX_PLAN_MOST 762 /* the most that matrix_plan writes: an edit of every parameter and bus */
 
 /* matrix_reports makes at most this many reports a call, of so many numbers each. */
@@ -108,8 +134,9 @@ typedef struct matrix_report {
 } matrix_report;
 
 /* The same, with four bytes that come with the message, as received: a patch's or a split's number, a
- * remote edit's parameter and value, a modulation edit's bus, source, amount and destination; zero
- * where the message has none and with every answer but 0. */
+ * remote edit's parameter and value, a modulation edit's bus, source, amount and destination, a
+ * request's type and number, a group's total and ID, a bank, a store's number, bank and ID; zero where
+ * the message has none and with every answer but 0. */
 typedef struct matrix_reading {
     matrix_report report;
     uint8_t bytes[4];
@@ -167,6 +194,26 @@ typedef struct matrix_fed {
     bool ended;             /* whether a message ended */
 } matrix_fed;
 
+/* What a unit keeps of the operations that it is sent. A program sets it up as the unit stands. */
+typedef struct matrix_unit {
+    uint8_t bank;
+    bool locked;    /* whether the bank is locked */
+    bool grouped;   /* whether group mode is on */
+    uint8_t number; /* its number in the group, which counts while group mode is on */
+} matrix_unit;
+
+/* What a message comes to in a unit. */
+typedef struct matrix_step {
+    matrix_report report;
+    matrix_unit unit; /* as it is after the message */
+    bool meant;       /* whether this is a store message, with answer 0, that is meant for this unit */
+    uint8_t count;    /* how many bytes are sent on: 7, or 0 */
+    uint8_t sent[MATRIX_GROUP_MODE_MESSAGE]; /* the message that is sent on, else zeros */
+} matrix_step;
+
+static_assert(sizeof(matrix_unit) == 4, "the library has a bool of one byte");
+static_assert(sizeof(matrix_step) == 56, "the library has a size_t of eight bytes");
+
 /* A dump's packed bytes where they stand. */
 typedef struct matrix_packed {
     const uint8_t *bytes;
@@ -186,8 +233,8 @@ matrix_report matrix_walk(const uint8_t *s, size_t s_len, size_t place);
 /* Reads the record of the first message of the input `s` that starts at `place` or later.
  * Answers: as matrix_walk, then 13 where the buffer is shorter than the packed bytes. Start, end and
  * noise are those of matrix_walk, with 13 too.
- * Written: a dump's packed bytes, 134, 18 or 172, at the start of the buffer with answer 0. An edit
- * needs no buffer. The rest of the buffer is kept, all of it with every other answer. */
+ * Written: a dump's packed bytes, 134, 18 or 172, at the start of the buffer with answer 0. Any other
+ * message needs no buffer. The rest of the buffer is kept, all of it with every other answer. */
 matrix_reading matrix_read(const uint8_t *s, size_t s_len, size_t place,
                            uint8_t *buffer, size_t buffer_len);
 
@@ -314,6 +361,48 @@ matrix_outcome matrix_write_edit(uint8_t parameter, uint8_t value, uint8_t *out,
  * Written: the first 9 bytes of the output with answer 0. */
 matrix_outcome matrix_write_bus_edit(uint8_t bus, uint8_t source, uint8_t amount, uint8_t destination,
                                      uint8_t *out, size_t out_len);
+
+/* Writes a request for data (04H): its type, an enum matrix_request, and the number of the patch, 0 to
+ * 99, with MATRIX_REQUEST_PATCH, else 0.
+ * Answers: 8, 13; 0 with detail 7.
+ * Written: the first 7 bytes of the output with answer 0. */
+matrix_outcome matrix_write_request_data(uint8_t type, uint8_t number, uint8_t *out, size_t out_len);
+
+/* Writes group mode (07H): how many units the group has, 2 to 6, and the number that the unit is to
+ * have in it, 0 to 5. Each has its range by itself. Sent with ID 0 to the first of a chain of units, it
+ * numbers them all, since each sends it on to the next with the ID raised by one.
+ * Answers: 8, 13; 0 with detail 7.
+ * Written: the first 7 bytes of the output with answer 0. */
+matrix_outcome matrix_write_group_mode(uint8_t total, uint8_t id, uint8_t *out, size_t out_len);
+
+/* Writes set bank (0AH), which also locks the bank, 0 to 9.
+ * Answers: 8, 13; 0 with detail 6.
+ * Written: the first 6 bytes of the output with answer 0. */
+matrix_outcome matrix_write_set_bank(uint8_t bank, uint8_t *out, size_t out_len);
+
+/* Writes unlock bank (0CH).
+ * Answers: 13; 0 with detail 5.
+ * Written: the first 5 bytes of the output with answer 0. */
+matrix_outcome matrix_write_unlock_bank(uint8_t *out, size_t out_len);
+
+/* Writes store edit buffer (0EH): the number of the patch, 0 to 99, the bank, 0 to 9, and the ID of the
+ * unit, 0 to 5 or MATRIX_ANY_UNIT; matrix_unit_meant tells whether that is a given unit.
+ * Answers: 8, 13; 0 with detail 8.
+ * Written: the first 8 bytes of the output with answer 0. */
+matrix_outcome matrix_write_store_edit_buffer(uint8_t number, uint8_t bank, uint8_t id,
+                                              uint8_t *out, size_t out_len);
+
+/* Steps a unit by the first message of the input `s` that starts at `place` or later. Set bank sets its
+ * bank and the lock; unlock bank clears the lock. Group mode turns group mode on, sets the number to
+ * the ID and, unless the ID is 5, is sent on with the ID raised by one. What a message is not said to
+ * change stays: with one of another kind, a refused one and none, all of the unit, and nothing is sent
+ * on. For the next message, step the unit that came of this one from the report's end.
+ * Answers: as matrix_walk, whose report it is. No byte is written. */
+matrix_step matrix_unit_step(matrix_unit unit, const uint8_t *s, size_t s_len, size_t place);
+
+/* Whether a store message with this ID is meant for a unit: with group mode off where the ID is 0, with
+ * group mode on where it is the unit's number or MATRIX_ANY_UNIT. */
+bool matrix_unit_meant(matrix_unit unit, uint8_t id);
 
 /* Writes a bank: 0 to 100 patches end to end, as single patch messages end to end, numbered from 0.
  * Answers: 7 for a length that is not a multiple of 134 or above 13,400; 11 or 12 of the lowest bad
@@ -623,6 +712,46 @@ static inline matrix_outcome matrix_write_bus_edit_(uint8_t bus, uint8_t source,
                                  matrix_output_(out, out_len), out_len);
 }
 #define matrix_write_bus_edit matrix_write_bus_edit_
+
+static inline matrix_outcome matrix_write_request_data_(uint8_t type, uint8_t number,
+                                                        uint8_t *out, size_t out_len)
+{
+    return matrix_write_request_data(type, number, matrix_output_(out, out_len), out_len);
+}
+#define matrix_write_request_data matrix_write_request_data_
+
+static inline matrix_outcome matrix_write_group_mode_(uint8_t total, uint8_t id,
+                                                      uint8_t *out, size_t out_len)
+{
+    return matrix_write_group_mode(total, id, matrix_output_(out, out_len), out_len);
+}
+#define matrix_write_group_mode matrix_write_group_mode_
+
+static inline matrix_outcome matrix_write_set_bank_(uint8_t bank, uint8_t *out, size_t out_len)
+{
+    return matrix_write_set_bank(bank, matrix_output_(out, out_len), out_len);
+}
+#define matrix_write_set_bank matrix_write_set_bank_
+
+static inline matrix_outcome matrix_write_unlock_bank_(uint8_t *out, size_t out_len)
+{
+    return matrix_write_unlock_bank(matrix_output_(out, out_len), out_len);
+}
+#define matrix_write_unlock_bank matrix_write_unlock_bank_
+
+static inline matrix_outcome matrix_write_store_edit_buffer_(uint8_t number, uint8_t bank, uint8_t id,
+                                                             uint8_t *out, size_t out_len)
+{
+    return matrix_write_store_edit_buffer(number, bank, id, matrix_output_(out, out_len), out_len);
+}
+#define matrix_write_store_edit_buffer matrix_write_store_edit_buffer_
+
+static inline matrix_step matrix_unit_step_(matrix_unit unit,
+                                            const uint8_t *s, size_t s_len, size_t place)
+{
+    return matrix_unit_step(unit, matrix_input_(s, s_len), s_len, place);
+}
+#define matrix_unit_step matrix_unit_step_
 
 static inline matrix_bank_outcome matrix_write_bank_(const uint8_t *ps, size_t ps_len,
                                                      uint8_t *out, size_t out_len)

@@ -899,12 +899,15 @@ static int took_all(matrix_fed fed, size_t taken)
     return untold(fed, taken, MATRIX_DONE, 0);
 }
 
+static int same_report(matrix_report a, matrix_report b)
+{
+    return noisy(a, b.start, b.end, b.noise)
+           && came_to(a.outcome, b.outcome.answer, b.outcome.detail, b.outcome.value);
+}
+
 static int same_reading(matrix_reading a, matrix_reading b)
 {
-    const matrix_outcome expected = b.report.outcome;
-    return noisy(a.report, b.report.start, b.report.end, b.report.noise)
-           && came_to(a.report.outcome, expected.answer, expected.detail, expected.value)
-           && memcmp(a.bytes, b.bytes, 4) == 0;
+    return same_report(a.report, b.report) && memcmp(a.bytes, b.bytes, 4) == 0;
 }
 
 static int same_cable(const matrix_cable *a, const matrix_cable *b)
@@ -1105,6 +1108,10 @@ static void test_cable_stream(void)
     at = put(s, at, message, sizeof message);
     at = put(s, at, planned, sizeof planned);
     at = put(s, at, "\xF0\xF0\xF7\xFE\xF0\x10\x02\xF7\xF0\x10\x06\x00\xF7", 13);
+    at = put(s, at, "\xF0\x10\x06\x04\x01\x63\xF7\xF0\x10\x06\x04\x01\x64\xF7", 14);
+    at = put(s, at, "\xF0\x10\x06\x07\x06\x05\xF7\xF0\x10\x06\x07\x06\x06\xF7", 14);
+    at = put(s, at, "\xF0\x10\x06\x0A\xFE\x09\xF7\xF0\x10\x06\x0C\xF7\xF0\x10\x06\x0C\x00\xF7", 18);
+    at = put(s, at, "\xF0\x10\x06\x0E\x63\x09\x7F\xF7\xF0\x10\x06\x0E\x00\x00\x06\xF7", 16);
     make_split_dump(split_dump, 49, split);
     at = put(s, at, split_dump, 40);
     at = put(s, at, "\xF7\xF8", 2);
@@ -1230,10 +1237,407 @@ static void test_cable_most(void)
     HOLDS(untold(matrix_cable_feed(&cable, dump, 1), 0, MATRIX_NO_MESSAGE, most));
 }
 
+/* The operations by their opcodes: how many bytes stand behind it, and some that are allowed. */
+typedef struct operation {
+    uint8_t opcode;
+    size_t count;
+    uint8_t behind[3];
+} operation;
+
+static const operation operations[] = {{MATRIX_OPCODE_REQUEST_DATA, 2, {MATRIX_REQUEST_PATCH, 99, 0}},
+                                       {MATRIX_OPCODE_GROUP_MODE, 2, {6, 5, 0}},
+                                       {MATRIX_OPCODE_SET_BANK, 1, {9, 0, 0}},
+                                       {MATRIX_OPCODE_UNLOCK_BANK, 0, {0, 0, 0}},
+                                       {MATRIX_OPCODE_STORE_EDIT_BUFFER, 3, {99, 9, 5}}};
+#define OPERATIONS (sizeof operations / sizeof operations[0])
+
+/* Whether documents 000 and 02 allow these bytes behind an opcode. */
+static int allowed(uint8_t opcode, const uint8_t b[3])
+{
+    switch (opcode) {
+    case 0x04:
+        return b[0] == 1 ? b[1] <= 99 : (b[0] == 0 || b[0] == 3 || b[0] == 4) && b[1] == 0;
+    case 0x07:
+        return b[0] >= 2 && b[0] <= 6 && b[1] <= 5;
+    case 0x0A:
+        return b[0] <= 9;
+    case 0x0E:
+        return b[0] <= 99 && b[1] <= 9 && (b[2] <= 5 || b[2] == 0x7F);
+    default:
+        return 1;
+    }
+}
+
+static matrix_outcome write_operation(uint8_t opcode, const uint8_t b[3], uint8_t *out, size_t out_len)
+{
+    switch (opcode) {
+    case MATRIX_OPCODE_REQUEST_DATA:
+        return matrix_write_request_data(b[0], b[1], out, out_len);
+    case MATRIX_OPCODE_GROUP_MODE:
+        return matrix_write_group_mode(b[0], b[1], out, out_len);
+    case MATRIX_OPCODE_SET_BANK:
+        return matrix_write_set_bank(b[0], out, out_len);
+    case MATRIX_OPCODE_UNLOCK_BANK:
+        return matrix_write_unlock_bank(out, out_len);
+    default:
+        return matrix_write_store_edit_buffer(b[0], b[1], b[2], out, out_len);
+    }
+}
+
+/* A message with so many bytes behind its opcode, laid out by hand; gives its length. */
+static size_t lay_out(uint8_t *message, uint8_t opcode, const uint8_t *behind, size_t count)
+{
+    memcpy(message, "\xF0\x10\x06", 3);
+    message[3] = opcode;
+    memcpy(message + 4, behind, count);
+    message[4 + count] = 0xF7;
+    return 5 + count;
+}
+
+/* All that reads a message gives this answer, and with 0 these bytes. */
+static void read_operation(const uint8_t *s, size_t s_len, uint8_t answer, const uint8_t bytes[4])
+{
+    const size_t detail = answer == MATRIX_DONE ? s[3] : 0;
+    matrix_cable cable = matrix_cable_fresh();
+
+    HOLDS(says(matrix_walk(s, s_len, 0), 0, s_len, answer, detail));
+    matrix_reading r = matrix_read(s, s_len, 0, NULL, 0);
+    HOLDS(says(r.report, 0, s_len, answer, detail) && memcmp(r.bytes, bytes, 4) == 0);
+    matrix_fed fed = matrix_cable_feed(&cable, s, s_len);
+    HOLDS(told(fed, s_len, 0, s_len, answer, detail) && memcmp(fed.reading.bytes, bytes, 4) == 0);
+    HOLDS(packs_none(&cable));
+}
+
+/* These bytes behind an opcode are written and read back, or refused by both. */
+static void try_operation(uint8_t opcode, const uint8_t behind[3], size_t count)
+{
+    uint8_t message[8], out[9], bytes[4] = {0, 0, 0, 0};
+    const size_t length = lay_out(message, opcode, behind, count);
+    const int good = allowed(opcode, behind);
+
+    memset(out, FILL_BYTE, sizeof out);
+    const uint8_t refused = good ? MATRIX_NO_ROOM : MATRIX_NOT_ALLOWED;
+    HOLDS(gave(write_operation(opcode, behind, out, length - 1), refused, 0));
+    HOLDS(all_are(out, 0, sizeof out, FILL_BYTE));
+    const matrix_outcome written = write_operation(opcode, behind, out, sizeof out);
+    HOLDS(good ? done(written, length) : gave(written, MATRIX_NOT_ALLOWED, 0));
+    HOLDS(!good || memcmp(out, message, length) == 0);
+    HOLDS(all_are(out, good ? length : 0, sizeof out, FILL_BYTE));
+
+    for (size_t i = 0; i < count; i++)
+        if (behind[i] > 0x7F)
+            return;
+    if (good)
+        memcpy(bytes, behind, count);
+    read_operation(message, length, good ? MATRIX_DONE : MATRIX_NOT_ALLOWED, bytes);
+}
+
+/* Every value of every byte, with those at the edges of all ranges in the other bytes. */
+static void test_operations(void)
+{
+    static const uint8_t edges[] = {0, 1, 2, 3, 4, 5, 6, 7, 9, 10, 99, 100, 126, 127, 128, 255};
+    const size_t n = sizeof edges;
+
+    for (size_t kind = 0; kind < OPERATIONS; kind++) {
+        const size_t count = operations[kind].count;
+        const size_t others = count == 3 ? n * n : count == 2 ? n : 1;
+        try_operation(operations[kind].opcode, operations[kind].behind, count);
+        for (size_t at = 0; at < count; at++)
+            for (size_t value = 0; value < 256; value++)
+                for (size_t i = 0; i < others; i++) {
+                    uint8_t behind[3] = {0, 0, 0};
+                    behind[(at + 2) % count] = edges[i / n];
+                    behind[(at + 1) % count] = edges[i % n];
+                    behind[at] = (uint8_t)value;
+                    try_operation(operations[kind].opcode, behind, count);
+                }
+    }
+}
+
+/* Every other length, real time inside, and every opcode. */
+static void test_operation_messages(void)
+{
+    static const uint8_t none[4] = {0, 0, 0, 0};
+    static const uint8_t known[] = {0x01, 0x02, 0x03, 0x04, 0x06, 0x07, 0x0A, 0x0B, 0x0C, 0x0D, 0x0E};
+    uint8_t behind[8], message[13], sent[16];
+
+    for (size_t kind = 0; kind < OPERATIONS; kind++) {
+        const operation *o = &operations[kind];
+        memset(behind, 0, sizeof behind);
+        memcpy(behind, o->behind, 3);
+        for (size_t count = 0; count <= sizeof behind; count++) {
+            const size_t length = lay_out(message, o->opcode, behind, count);
+            if (count != o->count)
+                read_operation(message, length, MATRIX_WRONG_LENGTH, none);
+        }
+        const size_t length = lay_out(message, o->opcode, o->behind, o->count);
+        for (size_t i = 0; i < length; i++) {
+            sent[2 * i] = message[i];
+            sent[2 * i + 1] = 0xFE;
+        }
+        matrix_reading r = matrix_read(sent, 2 * length, 0, NULL, 0);
+        HOLDS(noisy(r.report, 0, 2 * length - 1, length - 1));
+        HOLDS(done(r.report.outcome, o->opcode) && memcmp(r.bytes, o->behind, 3) == 0);
+        HOLDS(r.bytes[3] == 0);
+    }
+    for (size_t opcode = 0; opcode < 128; opcode++) {
+        lay_out(message, (uint8_t)opcode, none, 0);
+        const matrix_report report = matrix_walk(message, 5, 0);
+        if (memchr(known, (int)opcode, sizeof known) == NULL)
+            HOLDS(says(report, 0, 5, MATRIX_OTHER_OPCODE, 0));
+        else
+            HOLDS(report.outcome.answer == (opcode == 0x0C ? MATRIX_DONE : MATRIX_WRONG_LENGTH));
+    }
+}
+
+static matrix_unit make_unit(uint8_t bank, bool locked, bool grouped, uint8_t number)
+{
+    matrix_unit unit;
+    unit.bank = bank;
+    unit.locked = locked;
+    unit.grouped = grouped;
+    unit.number = number;
+    return unit;
+}
+
+/* Units in every state of lock and group, with banks and numbers inside and outside their ranges. */
+#define UNITS (4 * 4 * 8)
+
+static matrix_unit some_unit(size_t index)
+{
+    static const uint8_t banks[] = {0, 3, 9, 255}, numbers[] = {0, 1, 2, 4, 5, 6, 127, 255};
+    return make_unit(banks[index / 4 % 4], index & 1, index & 2, numbers[index / 16 % 8]);
+}
+
+static int same_unit(matrix_unit a, matrix_unit b)
+{
+    return a.bank == b.bank && a.locked == b.locked && a.grouped == b.grouped && a.number == b.number;
+}
+
+/* A step that sends nothing on. */
+static int stepped(matrix_step step, matrix_unit unit, bool meant)
+{
+    return same_unit(step.unit, unit) && step.meant == meant && step.count == 0
+           && all_are(step.sent, 0, 7, 0);
+}
+
+/* A unit of which nothing is changed. */
+static int stays(matrix_step step, matrix_unit unit)
+{
+    return stepped(step, unit, false);
+}
+
+/* One that sends group mode on. */
+static int sent_on(matrix_step step, matrix_unit unit, uint8_t total, uint8_t id)
+{
+    const uint8_t message[] = {0xF0, 0x10, 0x06, 0x07, total, id, 0xF7};
+    return same_unit(step.unit, unit) && !step.meant && step.count == 7
+           && memcmp(step.sent, message, 7) == 0;
+}
+
+/* What a message of an operation, allowed or not, comes to in a unit. */
+static void try_step(matrix_unit unit, uint8_t opcode, const uint8_t b[3], size_t count)
+{
+    uint8_t message[8];
+    const size_t length = lay_out(message, opcode, b, count);
+    const matrix_step step = matrix_unit_step(unit, message, length, 0);
+    const int good = allowed(opcode, b);
+    matrix_unit after = unit;
+
+    HOLDS(says(step.report, 0, length, good ? MATRIX_DONE : MATRIX_NOT_ALLOWED, good ? opcode : 0));
+    if (good && opcode == MATRIX_OPCODE_STORE_EDIT_BUFFER) {
+        const bool meant = unit.grouped ? b[2] == unit.number || b[2] == 0x7F : b[2] == 0;
+        HOLDS(stepped(step, unit, meant) && matrix_unit_meant(unit, b[2]) == meant);
+        return;
+    }
+    if (good && opcode == MATRIX_OPCODE_SET_BANK) {
+        after.bank = b[0];
+        after.locked = true;
+    }
+    if (good && opcode == MATRIX_OPCODE_UNLOCK_BANK)
+        after.locked = false;
+    if (good && opcode == MATRIX_OPCODE_GROUP_MODE) {
+        after.grouped = true;
+        after.number = b[1];
+        HOLDS(b[1] == 5 ? stays(step, after) : sent_on(step, after, b[0], (uint8_t)(b[1] + 1)));
+        return;
+    }
+    HOLDS(stays(step, after));
+}
+
+/* Every data byte at every place of an operation, the others being allowed. */
+static void test_units(void)
+{
+    for (size_t i = 0; i < UNITS; i++) {
+        const matrix_unit unit = some_unit(i);
+        for (size_t kind = 0; kind < OPERATIONS; kind++) {
+            const operation *o = &operations[kind];
+            try_step(unit, o->opcode, o->behind, o->count);
+            for (size_t at = 0; at < o->count; at++)
+                for (size_t value = 0; value < 128; value++) {
+                    uint8_t behind[3];
+                    memcpy(behind, o->behind, 3);
+                    behind[at] = (uint8_t)value;
+                    try_step(unit, o->opcode, behind, o->count);
+                }
+        }
+        for (size_t total = 0; total < 8; total++)
+            for (size_t id = 0; id < 8; id++) {
+                const uint8_t behind[3] = {(uint8_t)total, (uint8_t)id, 0};
+                try_step(unit, MATRIX_OPCODE_GROUP_MODE, behind, 2);
+            }
+        for (size_t id = 0; id < 256; id++)
+            HOLDS(matrix_unit_meant(unit, (uint8_t)id)
+                  == (unit.grouped ? id == unit.number || id == MATRIX_ANY_UNIT : id == 0));
+    }
+}
+
+/* Messages of other kinds, refused ones and none: the unit stays as it is. */
+static void test_unit_stays(void)
+{
+    static const uint8_t small[] = {
+        0xF0, 0x10, 0x06, 0x06, 0x15, 0x7F, 0xF7,                   /* edits, allowed and not */
+        0xF0, 0x10, 0x06, 0x06, 0x00, 0x40, 0xF7,
+        0xF0, 0x10, 0x06, 0x0B, 0x09, 0x14, 0x40, 0x20, 0xF7,
+        0xF0, 0x10, 0x06, 0x0B, 0x09, 0x14, 0x40, 0x00, 0xF7,
+        0xF0, 0x10, 0x06, 0x04, 0x00, 0x00, 0xF7,                   /* a request */
+        0xF0, 0x41, 0x06, 0x0A, 0x03, 0xF7,                         /* not a Matrix-1000's */
+        0xF0, 0x10, 0x02, 0x0A, 0x03, 0xF7,
+        0xF0, 0x10, 0x06, 0x08, 0x03, 0xF7,
+        0xF0, 0x10, 0x06, 0x0A, 0xF7, 0xF0, 0x10, 0x06, 0x0C, 0x00, 0xF7, /* of another length */
+        0xF0, 0x10, 0x06, 0x07, 0x02, 0xF7, 0xF0, 0x10, 0x06, 0x0E, 0x00, 0x00, 0xF7,
+        0xF0, 0x10, 0x06, 0x0A, 0x0A, 0xF7, 0xF0, 0x10, 0x06, 0x07, 0x02, 0x06, 0xF7, /* refused by 8 */
+        0xF0, 0x10, 0x06, 0x07, 0x01, 0x00, 0xF7, 0xF0, 0x10, 0x06, 0x0E, 0x64, 0x00, 0x00, 0xF7,
+        0xF0, 0x10, 0x06, 0x0A, 0x03, 0x90, 0xF7, 0xF0, 0x10, 0x06, 0x07, 0x02, 0x00, /* not ended */
+        0xF0, 0x10, 0x06, 0x0C};
+    static uint8_t s[2048];
+    uint8_t p[MATRIX_PATCH_BYTES], dump[MATRIX_PATCH_MESSAGE], split[MATRIX_SPLIT_BYTES];
+    uint8_t master[MATRIX_MASTER_BYTES] = {0}, message[MATRIX_MASTER_MESSAGE];
+    size_t at = 0;
+
+    make_p(p);
+    make_split(split);
+    HOLDS(done(matrix_write_patch(99, p, sizeof p, dump, sizeof dump), sizeof dump));
+    at = put(s, at, dump, sizeof dump);
+    dump[273] ^= 1;
+    at = put(s, at, dump, sizeof dump);
+    make_dump(dump, 105, 0xBF);
+    at = put(s, at, dump, sizeof dump);
+    HOLDS(done(matrix_write_edit_buffer(p, sizeof p, dump, sizeof dump), sizeof dump));
+    at = put(s, at, dump, sizeof dump);
+    HOLDS(done(matrix_write_split(49, split, sizeof split, message, sizeof message), 43));
+    at = put(s, at, message, 43);
+    HOLDS(done(matrix_write_master(master, sizeof master, message, sizeof message), sizeof message));
+    at = put(s, at, message, sizeof message);
+    at = put(s, at, small, sizeof small);
+    for (size_t i = 0; i < UNITS; i++) {
+        const matrix_unit unit = some_unit(i);
+        size_t place = 0, count = 0;
+        for (;;) {
+            const matrix_step step = matrix_unit_step(unit, s, at, place);
+            HOLDS(same_report(step.report, matrix_walk(s, at, place)) && stays(step, unit));
+            if (step.report.outcome.answer == MATRIX_NO_MESSAGE)
+                break;
+            place = step.report.end;
+            count++;
+        }
+        HOLDS(count == 25 && place == at && stays(matrix_unit_step(unit, s, at, SIZE_MAX), unit));
+    }
+}
+
+/* Several messages, step by step, with other things around them. */
+static void test_unit_stream(void)
+{
+    static const uint8_t s[] = {0x41, 0xF0, 0x10, 0x06, 0xFE, 0x0A, 0x03, 0xF7, /* bank 3 */
+                                0xF0, 0x10, 0x06, 0x0E, 0x07, 0x03, 0x00, 0xF7, /* a store to 0 */
+                                0xF0, 0x10, 0x06, 0x0A, 0x0A, 0xF7,             /* bank 10 */
+                                0xF0, 0x10, 0x06, 0x0C, 0xF7, 0x90, 0x40, 0x40, /* unlock */
+                                0xF0, 0x10, 0x06, 0x07, 0x03, 0x01, 0xF7,       /* unit 1 of 3 */
+                                0xF0, 0x10, 0x06, 0x0E, 0x07, 0x03, 0x00, 0xF7, /* a store to 0 */
+                                0xF0, 0x10, 0x06, 0x0E, 0x07, 0x03, 0x01, 0xF7, /* one to 1 */
+                                0xF0, 0x10, 0x06, 0x0E, 0x07, 0x03, 0x7F, 0xF7, /* one to any */
+                                0xF0, 0x10, 0x06, 0x07, 0x02, 0x05, 0xF7};      /* unit 5 of 2 */
+    const size_t store = MATRIX_OPCODE_STORE_EDIT_BUFFER, group = MATRIX_OPCODE_GROUP_MODE;
+
+    matrix_step step = matrix_unit_step(make_unit(0, false, false, 0), s, sizeof s, 0);
+    HOLDS(noisy(step.report, 1, 8, 1) && done(step.report.outcome, MATRIX_OPCODE_SET_BANK));
+    HOLDS(stays(step, make_unit(3, true, false, 0)));
+    step = matrix_unit_step(step.unit, s, sizeof s, step.report.end);
+    HOLDS(says(step.report, 8, 16, MATRIX_DONE, store));
+    HOLDS(stepped(step, make_unit(3, true, false, 0), true));
+    step = matrix_unit_step(step.unit, s, sizeof s, step.report.end);
+    HOLDS(says(step.report, 16, 22, MATRIX_NOT_ALLOWED, 0));
+    HOLDS(stays(step, make_unit(3, true, false, 0)));
+    step = matrix_unit_step(step.unit, s, sizeof s, step.report.end);
+    HOLDS(says(step.report, 22, 27, MATRIX_DONE, MATRIX_OPCODE_UNLOCK_BANK));
+    HOLDS(stays(step, make_unit(3, false, false, 0)));
+    step = matrix_unit_step(step.unit, s, sizeof s, step.report.end);
+    HOLDS(says(step.report, 30, 37, MATRIX_DONE, group));
+    HOLDS(sent_on(step, make_unit(3, false, true, 1), 3, 2));
+    for (size_t i = 0; i < 3; i++) {
+        step = matrix_unit_step(step.unit, s, sizeof s, step.report.end);
+        HOLDS(says(step.report, 37 + 8 * i, 45 + 8 * i, MATRIX_DONE, store));
+        HOLDS(stepped(step, make_unit(3, false, true, 1), i > 0));
+    }
+    step = matrix_unit_step(step.unit, s, sizeof s, step.report.end);
+    HOLDS(says(step.report, 61, 68, MATRIX_DONE, group));
+    HOLDS(stays(step, make_unit(3, false, true, 5)));
+    step = matrix_unit_step(step.unit, s, sizeof s, step.report.end);
+    HOLDS(says(step.report, 68, 68, MATRIX_NO_MESSAGE, 0));
+    HOLDS(stays(step, make_unit(3, false, true, 5)));
+}
+
+/* One message numbers a chain of units, in whatever state they are; then each has its stores. */
+static void try_chain(uint8_t total, matrix_unit units[MATRIX_GROUP_MOST])
+{
+    static const uint8_t ids[] = {0, 1, 2, 3, 4, 5, MATRIX_ANY_UNIT};
+    uint8_t message[MATRIX_STORE_EDIT_BUFFER_MESSAGE];
+    size_t length = MATRIX_GROUP_MODE_MESSAGE;
+    matrix_step step;
+
+    HOLDS(done(matrix_write_group_mode(total, 0, message, length), length));
+    for (uint8_t k = 0; k < total; k++) {
+        const matrix_unit after = make_unit(units[k].bank, units[k].locked, true, k);
+        step = matrix_unit_step(units[k], message, length, 0);
+        HOLDS(says(step.report, 0, 7, MATRIX_DONE, MATRIX_OPCODE_GROUP_MODE));
+        HOLDS(k == 5 ? stays(step, after) : sent_on(step, after, total, (uint8_t)(k + 1)));
+        units[k] = step.unit;
+        length = step.count;
+        memcpy(message, step.sent, sizeof step.sent);
+    }
+    /* What the last sends on is still a message: there is no unit for it. */
+    HOLDS(total == MATRIX_GROUP_MOST
+              ? length == 0
+              : says(matrix_walk(message, length, 0), 0, 7, MATRIX_DONE, MATRIX_OPCODE_GROUP_MODE));
+
+    for (size_t i = 0; i < sizeof ids; i++) {
+        HOLDS(done(matrix_write_store_edit_buffer(0, 0, ids[i], message, sizeof message), 8));
+        for (uint8_t k = 0; k < total; k++) {
+            step = matrix_unit_step(units[k], message, sizeof message, 0);
+            HOLDS(stepped(step, units[k], ids[i] == k || ids[i] == MATRIX_ANY_UNIT));
+        }
+    }
+}
+
+static void test_chains(void)
+{
+    matrix_unit units[MATRIX_GROUP_MOST];
+
+    for (uint8_t total = 2; total <= MATRIX_GROUP_MOST; total++)
+        for (size_t first = 0; first < UNITS; first++)
+            for (size_t apart = 0; apart < 20; apart++) {
+                for (size_t k = 0; k < total; k++)
+                    units[k] = some_unit((first + apart * k) % UNITS);
+                try_chain(total, units);
+                try_chain(total, units); /* and anew, as it stands */
+            }
+}
+
 /* An empty slice at NULL is an empty slice. */
 static void test_null(void)
 {
     uint8_t p[MATRIX_PATCH_BYTES], split[MATRIX_SPLIT_BYTES], one[1] = {FILL_BYTE};
+    const matrix_unit unit = make_unit(9, true, true, 5);
     matrix_cable cable = matrix_cable_fresh();
 
     make_p(p);
@@ -1265,6 +1669,13 @@ static void test_null(void)
     HOLDS(gave(matrix_write_master(NULL, 0, NULL, 0), MATRIX_WRONG_LENGTH, 0));
     HOLDS(gave(matrix_write_edit(0x15, 0, NULL, 0), MATRIX_NO_ROOM, 0));
     HOLDS(gave(matrix_write_bus_edit(0, 0, 0, 0, NULL, 0), MATRIX_NO_ROOM, 0));
+    HOLDS(gave(matrix_write_request_data(0, 0, NULL, 0), MATRIX_NO_ROOM, 0));
+    HOLDS(gave(matrix_write_group_mode(2, 0, NULL, 0), MATRIX_NO_ROOM, 0));
+    HOLDS(gave(matrix_write_set_bank(0, NULL, 0), MATRIX_NO_ROOM, 0));
+    HOLDS(gave(matrix_write_unlock_bank(NULL, 0), MATRIX_NO_ROOM, 0));
+    HOLDS(gave(matrix_write_store_edit_buffer(0, 0, 0, NULL, 0), MATRIX_NO_ROOM, 0));
+    HOLDS(stays(matrix_unit_step(unit, NULL, 0, 0), unit));
+    HOLDS(says(matrix_unit_step(unit, NULL, 0, 5).report, 0, 0, MATRIX_NO_MESSAGE, 0));
     HOLDS(bank_gave(matrix_write_bank(NULL, 0, NULL, 0), MATRIX_DONE, 0, 0));
     HOLDS(bank_gave(matrix_write_bank(NULL, 0, one, 1), MATRIX_DONE, 0, 0));
     HOLDS(gave(matrix_plan(NULL, 0, NULL, 0, NULL, 0), MATRIX_WRONG_LENGTH, 0));
@@ -1308,6 +1719,12 @@ int main(void)
     test_cable_packed();
     test_cable_end();
     test_cable_most();
+    test_operations();
+    test_operation_messages();
+    test_units();
+    test_unit_stays();
+    test_unit_stream();
+    test_chains();
     test_null();
     printf("c: %u checks hold\n", checks);
     return EXIT_SUCCESS;

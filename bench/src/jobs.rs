@@ -8,7 +8,7 @@ use compare::word;
 use reference::streams::plans::{self, Pair};
 use reference::streams::{inputs, Random};
 use reference::{
-    parameter_of, CableReader, Fed, BANK_PATCHES, LONGEST_PLAN, PATCH_LENGTH, SPLIT_LENGTH,
+    parameter_of, CableReader, Fed, Unit, BANK_PATCHES, LONGEST_PLAN, PATCH_LENGTH, SPLIT_LENGTH,
 };
 
 /// A job in both ways.
@@ -27,6 +27,7 @@ const SEED: u64 = 1000;
 /// only has far more reports to a byte.
 const BANKS: usize = 1 << 16;
 const SPLITS: usize = 1 << 16;
+const OPERATIONS: usize = 1 << 16;
 const NOISE: usize = 1 << 20;
 const STARTS: usize = 1 << 14;
 /// How many patches are tested and edits are applied in a pass.
@@ -35,10 +36,13 @@ const MANY: usize = 100;
 const UNIT_SPLITS: usize = 50;
 /// The length of a split dump.
 const SPLIT_DUMP: usize = 43;
+/// How many operations there are of each of the five kinds, and the length of one of each.
+const EACH: usize = MANY / 5;
+const FIVE: usize = 7 + 7 + 6 + 5 + 8;
 /// How many edits make a patch another in every parameter and every bus.
 const PARTS: usize = 96 + 10;
 
-pub fn all() -> [Job; 26] {
+pub fn all() -> [Job; 29] {
     let mut random = Random::new(SEED);
     let bank = good_patches(&mut random, BANK_PATCHES);
     let banks: Vec<u8> = bank_dumps(&bank).into_iter().cycle().take(BANKS).collect();
@@ -59,6 +63,8 @@ pub fn all() -> [Job; 26] {
         .cycle()
         .take(SPLITS)
         .collect();
+    let operations = (0..EACH).map(|_| Five::good(&mut random)).collect();
+    let operation_stream = operation_stream(&mut random);
     [
         reports("reports-banks", banks.clone()),
         reports("reports-sensing-16", seldom),
@@ -67,6 +73,7 @@ pub fn all() -> [Job; 26] {
         reports("reports-starts", starts),
         read("read-banks", banks.clone(), PATCH_LENGTH),
         read("read-splits", split_dumps, SPLIT_LENGTH),
+        read_operations(operation_stream.clone()),
         cable("cable-dumps-1", banks.clone(), 1, in_place),
         cable("cable-dumps-16", banks.clone(), 16, in_place),
         cable("cable-dumps-256", banks.clone(), 256, in_place),
@@ -82,6 +89,8 @@ pub fn all() -> [Job; 26] {
         values(patch),
         write_bank(bank),
         write_splits(splits),
+        write_operations(operations),
+        unit_steps(operation_stream),
         apply_edits(patch, edits),
         apply_bus_edits(patch, bus_edits),
         plan(apart.clone()),
@@ -117,6 +126,49 @@ fn split_dumps(splits: &[u8]) -> Vec<u8> {
         assert_eq!(written.answer, 0, "good splits");
     }
     dumps
+}
+
+/// The bytes of an operation of each kind, but for unlock, which has none.
+#[derive(Clone)]
+struct Five {
+    request: [u8; 2],
+    group: [u8; 2],
+    bank: [u8; 1],
+    store: [u8; 3],
+}
+
+impl Five {
+    fn good(random: &mut Random) -> Self {
+        Self {
+            request: inputs::good_request(random),
+            group: inputs::good_group(random),
+            bank: inputs::good_bank_number(random),
+            store: inputs::good_store(random),
+        }
+    }
+}
+
+/// Operations of all five kinds in any order, each accepted, as many as fit.
+fn operation_stream(random: &mut Random) -> Vec<u8> {
+    let mut stream = Vec::with_capacity(OPERATIONS);
+    loop {
+        let five = Five::good(random);
+        let mut message = [0; 8];
+        let out = &mut message[..];
+        let [number, bank, id] = five.store;
+        let written = match random.below(5) {
+            0 => reference::write_request_data(five.request[0], five.request[1], out),
+            1 => reference::write_group_mode(five.group[0], five.group[1], out),
+            2 => reference::write_set_bank(five.bank[0], out),
+            3 => reference::write_unlock_bank(out),
+            _ => reference::write_store_edit_buffer(number, bank, id, out),
+        };
+        assert_eq!(written.answer, 0, "good operations");
+        if stream.len() + written.detail > OPERATIONS {
+            return stream;
+        }
+        stream.extend_from_slice(&message[..written.detail]);
+    }
 }
 
 /// Adds a result to those so far.
@@ -193,6 +245,106 @@ fn read(name: &'static str, input: Vec<u8>, packed: usize) -> Job {
                 let outcome = one(r.answer, r.detail, r.value);
                 let places = r.start ^ r.end ^ r.noise;
                 all = add(all, places ^ outcome ^ usize::from(first));
+                place = r.end;
+            }
+        }),
+    }
+}
+
+/// Every record of a stream of operations, which need no buffer.
+fn read_operations(input: Vec<u8>) -> Job {
+    let other = input.clone();
+    Job {
+        name: "read-operations",
+        amount: input.len(),
+        unit: "MB/s",
+        library: Box::new(move || {
+            let input = black_box(input.as_slice());
+            let (mut all, mut place) = (0, 0);
+            loop {
+                let r = ffi::read(input, place, &mut []);
+                let outcome = r.report.outcome;
+                if outcome.answer == 1 {
+                    return all;
+                }
+                let places = r.report.start ^ r.report.end ^ r.report.noise;
+                all = add(all, places ^ library(outcome) ^ four(r.bytes));
+                place = r.report.end;
+            }
+        }),
+        plain: Box::new(move || {
+            let input = black_box(other.as_slice());
+            let (mut all, mut place) = (0, 0);
+            loop {
+                let r = reference::read(input, place, &mut []);
+                if r.answer == 1 {
+                    return all;
+                }
+                let outcome = one(r.answer, r.detail, r.value);
+                let places = r.start ^ r.end ^ r.noise;
+                all = add(all, places ^ outcome ^ four(r.bytes));
+                place = r.end;
+            }
+        }),
+    }
+}
+
+/// A unit stepped through a stream of operations.
+fn unit_steps(input: Vec<u8>) -> Job {
+    let other = input.clone();
+    Job {
+        name: "unit-steps",
+        amount: input.len(),
+        unit: "MB/s",
+        library: Box::new(move || {
+            let input = black_box(input.as_slice());
+            let (mut all, mut place) = (0, 0);
+            let mut unit = black_box(ffi::Unit::default());
+            loop {
+                let step = ffi::unit_step(unit, input, place);
+                let ffi::Report {
+                    start,
+                    end,
+                    outcome,
+                    noise,
+                } = step.report;
+                if outcome.answer == 1 {
+                    return all;
+                }
+                unit = step.unit;
+                let state = [
+                    unit.bank,
+                    unit.locked.into(),
+                    unit.grouped.into(),
+                    unit.number,
+                ];
+                let told = start ^ end ^ noise ^ library(outcome) ^ four(state);
+                let sent = if step.count > 0 { seven(step.sent) } else { 0 };
+                all = add(all, told ^ usize::from(step.meant) ^ sent);
+                place = end;
+            }
+        }),
+        plain: Box::new(move || {
+            let input = black_box(other.as_slice());
+            let (mut all, mut place) = (0, 0);
+            let mut unit = black_box(Unit::default());
+            loop {
+                let step = unit.step(input, place);
+                let r = step.report;
+                if r.answer == 1 {
+                    return all;
+                }
+                unit = step.unit;
+                let state = [
+                    unit.bank,
+                    unit.locked.into(),
+                    unit.group.is_some().into(),
+                    unit.group.unwrap_or(0),
+                ];
+                let outcome = one(r.answer, r.detail, r.value);
+                let told = r.start ^ r.end ^ r.noise ^ outcome ^ four(state);
+                let sent = step.sent.map_or(0, seven);
+                all = add(all, told ^ usize::from(step.meant) ^ sent);
                 place = r.end;
             }
         }),
@@ -389,6 +541,73 @@ fn each_written(
         })
 }
 
+/// A hundred operations, one behind the other into one output.
+fn write_operations(operations: Vec<Five>) -> Job {
+    let other = operations.clone();
+    let mut out = vec![0; FIVE * operations.len()];
+    let mut other_out = out.clone();
+    Job {
+        name: "write-operations",
+        amount: MANY,
+        unit: "million messages/s",
+        library: Box::new(move || {
+            let put = |outcome: ffi::Outcome| (library(outcome), outcome.detail);
+            each_five_written(&operations, &mut out, |five, behind| {
+                let ([wanted, patch], [total, unit]) = (five.request, five.group);
+                let ([bank], [number, to, id]) = (five.bank, five.store);
+                behind.put(|out| put(ffi::write_request_data(wanted, patch, out)));
+                behind.put(|out| put(ffi::write_group_mode(total, unit, out)));
+                behind.put(|out| put(ffi::write_set_bank(bank, out)));
+                behind.put(|out| put(ffi::write_unlock_bank(out)));
+                behind.put(|out| put(ffi::write_store_edit_buffer(number, to, id, out)));
+            })
+        }),
+        plain: Box::new(move || {
+            let put = |outcome: reference::Outcome| (plain(outcome), outcome.detail);
+            each_five_written(&other, &mut other_out, |five, behind| {
+                let ([wanted, patch], [total, unit]) = (five.request, five.group);
+                let ([bank], [number, to, id]) = (five.bank, five.store);
+                behind.put(|out| put(reference::write_request_data(wanted, patch, out)));
+                behind.put(|out| put(reference::write_group_mode(total, unit, out)));
+                behind.put(|out| put(reference::write_set_bank(bank, out)));
+                behind.put(|out| put(reference::write_unlock_bank(out)));
+                behind.put(|out| put(reference::write_store_edit_buffer(number, to, id, out)));
+            })
+        }),
+    }
+}
+
+/// An output that messages go into one behind the other, and their results so far.
+struct Behind<'o> {
+    out: &'o mut [u8],
+    place: usize,
+    all: usize,
+}
+
+impl Behind<'_> {
+    /// Writes a message behind the last one, which gives a number and its length.
+    fn put(&mut self, write: impl FnOnce(&mut [u8]) -> (usize, usize)) {
+        let (told, length) = write(&mut self.out[self.place..]);
+        self.all = add(self.all, told);
+        self.place += length;
+    }
+}
+
+/// Writes an operation of each kind, and again. The last ID is among what is given.
+fn each_five_written(
+    operations: &[Five],
+    out: &mut [u8],
+    write: impl Fn(&Five, &mut Behind),
+) -> usize {
+    let (place, all) = (0, 0);
+    let out = black_box(out);
+    let mut behind = Behind { out, place, all };
+    for five in black_box(operations) {
+        write(five, &mut behind);
+    }
+    add(behind.all, behind.out[behind.place - 2].into())
+}
+
 /// Remote edits, one after the other on one patch.
 fn apply_edits(mut patch: [u8; PATCH_LENGTH], edits: Vec<[u8; 2]>) -> Job {
     let other = edits.clone();
@@ -522,6 +741,16 @@ fn plain_reading(fed: Fed) -> usize {
     let [first, ..] = fed.bytes;
     let outcome = one(r.answer, r.detail, r.value);
     r.start ^ r.end ^ outcome ^ r.noise ^ usize::from(first)
+}
+
+/// Four bytes as one number.
+fn four(bytes: [u8; 4]) -> usize {
+    u32::from_le_bytes(bytes) as usize
+}
+
+/// A message of seven bytes as one number.
+fn seven([a, b, c, d, e, f, g]: [u8; 7]) -> usize {
+    u64::from_le_bytes([a, b, c, d, e, f, g, 0]) as usize
 }
 
 /// All bytes added up.

@@ -169,6 +169,16 @@ fn told(fed: reference::Fed) -> ffi::Fed {
         report,
         bytes,
     } = fed;
+    let report = report_of(report);
+    ffi::Fed {
+        reading: ffi::Reading { report, bytes },
+        taken,
+        ended,
+    }
+}
+
+/// The second program's report, as the library's struct.
+pub const fn report_of(report: reference::Report) -> ffi::Report {
     let reference::Report {
         start,
         end,
@@ -182,16 +192,11 @@ fn told(fed: reference::Fed) -> ffi::Fed {
         value,
         detail,
     };
-    let report = ffi::Report {
+    ffi::Report {
         start,
         end,
         outcome,
         noise,
-    };
-    ffi::Fed {
-        reading: ffi::Reading { report, bytes },
-        taken,
-        ended,
     }
 }
 

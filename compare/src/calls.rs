@@ -1,7 +1,7 @@
 //! Inputs for each routine: good, damaged and hostile, with slices of every length around the
 //! needed one.
 
-use compare::ffi::{A_CALL, EMPTY};
+use compare::ffi::{Unit, A_CALL, EMPTY};
 use reference::streams::{self, inputs, Random};
 use reference::{reports, BANK_PATCHES, NAME_LENGTH, PATCH_LENGTH, SPLIT_LENGTH};
 
@@ -26,16 +26,17 @@ pub fn call(random: &mut Random) -> Call {
         room: Lent::filled(random, 0),
         place: 0,
         bytes: [0; 4],
+        unit: Unit::default(),
         third: Lent::filled(random, 0),
         run: None,
     }
 }
 
 /// A stream and a place to walk it from.
-type Stream = (Vec<u8>, usize);
+pub type Stream = (Vec<u8>, usize);
 
 /// A place in a stream: the start of a message, or anywhere, past the end too.
-fn placed(random: &mut Random, input: Vec<u8>) -> Stream {
+pub fn placed(random: &mut Random, input: Vec<u8>) -> Stream {
     let place = if random.one_in(2) {
         let some = random.below(6);
         let report = reports(&input).take(some + 1).last();
@@ -83,7 +84,7 @@ pub fn walk_noisy(random: &mut Random) -> Call {
     walk_of(random, stream)
 }
 
-fn walk_of(random: &mut Random, (input, place): Stream) -> Call {
+pub fn walk_of(random: &mut Random, (input, place): Stream) -> Call {
     Call {
         first: Lent::new(random, &input),
         place,
@@ -305,9 +306,9 @@ pub fn every_amount(random: &mut Random, number: usize) -> Call {
     }
 }
 
-/// An edit as a message.
-pub fn sent(opcode: u8, edit: &[u8]) -> Vec<u8> {
-    [&[0xF0, 0x10, 0x06, opcode], edit, &[0xF7]].concat()
+/// An edit or an operation as a message.
+pub fn sent(opcode: u8, bytes: &[u8]) -> Vec<u8> {
+    [&[0xF0, 0x10, 0x06, opcode], bytes, &[0xF7]].concat()
 }
 
 /// The same edit sent, between other bytes.

@@ -2,7 +2,7 @@
 //! lent, in a bank and in a dump; and each place of a split. All else in these calls is good, so each of
 //! them is refused by 11.
 
-use compare::ffi::{A_CALL, EMPTY};
+use compare::ffi::{Unit, A_CALL, EMPTY};
 use reference::kinds::{length, opcode, LAST_SPLIT, MATRIX, OBERHEIM};
 use reference::nibbles::{sum, unpack};
 use reference::streams::{inputs, Random};
@@ -85,6 +85,7 @@ fn lent(random: &mut Random, bytes: &[u8]) -> Call {
         room: Lent::filled(random, A_CALL * EMPTY.len()),
         place: 0,
         bytes: [random.byte_within(0..=9), 1, random.byte_within(0..=127), 1],
+        unit: Unit::default(),
         third: Lent::filled(random, 0),
         run: None,
     }

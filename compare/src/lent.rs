@@ -2,6 +2,7 @@
 
 use std::fmt;
 
+use compare::ffi::Unit;
 use reference::streams::Random;
 
 use crate::cable::Run;
@@ -101,8 +102,10 @@ pub struct Call {
     pub room: Lent<usize>,
     /// The place to walk from.
     pub place: usize,
-    /// The number of a patch or a split, or an edit's bytes.
+    /// The number of a patch or a split, the bytes of an edit or an operation, or an ID.
     pub bytes: [u8; 4],
+    /// The unit that a message is for.
+    pub unit: Unit,
     /// A reader straight from the cable, which is fed what is read first.
     pub run: Option<Box<Run>>,
 }
@@ -113,7 +116,8 @@ impl fmt::Display for Call {
         writeln!(f, "    second  {:?}", self.second)?;
         writeln!(f, "    third   {:?}", self.third)?;
         writeln!(f, "    room    {:?}", self.room)?;
-        write!(f, "    place {}, bytes {:02X?}", self.place, self.bytes)?;
+        writeln!(f, "    place {}, bytes {:02X?}", self.place, self.bytes)?;
+        write!(f, "    {:?}", self.unit)?;
         self.run.iter().try_for_each(|run| write!(f, "\n{run}"))
     }
 }

@@ -16,10 +16,12 @@ mod feeds;
 mod found;
 mod lent;
 mod long;
+mod operations;
 mod pairs;
 mod routines;
 mod slips;
 mod stack;
+mod units;
 
 use std::collections::BTreeMap;
 use std::env;

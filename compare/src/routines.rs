@@ -12,8 +12,10 @@ use crate::calls;
 use crate::feeds;
 use crate::found;
 use crate::lent::Call;
+use crate::operations;
 use crate::pairs;
 use crate::slips;
+use crate::units;
 
 /// Where a routine's inputs come from.
 #[derive(Clone, Copy)]
@@ -188,9 +190,37 @@ impl From<ffi::Cable> for Returned {
     }
 }
 
+impl From<ffi::Step> for Returned {
+    fn from(step: ffi::Step) -> Self {
+        let ffi::Step {
+            report,
+            unit,
+            meant,
+            count,
+            sent,
+        } = step;
+        let ffi::Unit {
+            bank,
+            locked,
+            grouped,
+            number,
+        } = unit;
+        let unit = [bank, locked.into(), grouped.into(), number];
+        let told = Self::from(report).and(unit.map(usize::from));
+        told.and([meant.into(), count.into()])
+            .and(sent.map(usize::from))
+    }
+}
+
 impl From<u8> for Returned {
     fn from(number: u8) -> Self {
         Self::new(vec![number.into()])
+    }
+}
+
+impl From<bool> for Returned {
+    fn from(is_so: bool) -> Self {
+        Self::from(u8::from(is_so))
     }
 }
 
@@ -459,6 +489,72 @@ const WRITE_BUS_EDIT: Routine = Routine {
     },
 };
 
+const WRITE_REQUEST_DATA: Routine = Routine {
+    name: "write_request_data",
+    inputs: "",
+    source: Source::Any(operations::write_request),
+    library: |c| {
+        let [wanted, number, ..] = c.bytes;
+        ffi::write_request_data(wanted, number, c.second.get_mut()).into()
+    },
+    expected: |c| {
+        let [wanted, number, ..] = c.bytes;
+        reference::write_request_data(wanted, number, c.second.get_mut()).into()
+    },
+};
+
+const WRITE_GROUP_MODE: Routine = Routine {
+    name: "write_group_mode",
+    inputs: "",
+    source: Source::Any(operations::write_group),
+    library: |c| {
+        let [total, id, ..] = c.bytes;
+        ffi::write_group_mode(total, id, c.second.get_mut()).into()
+    },
+    expected: |c| {
+        let [total, id, ..] = c.bytes;
+        reference::write_group_mode(total, id, c.second.get_mut()).into()
+    },
+};
+
+const WRITE_SET_BANK: Routine = Routine {
+    name: "write_set_bank",
+    inputs: "",
+    source: Source::Any(operations::write_bank_number),
+    library: |c| ffi::write_set_bank(c.bytes[0], c.second.get_mut()).into(),
+    expected: |c| reference::write_set_bank(c.bytes[0], c.second.get_mut()).into(),
+};
+
+const WRITE_UNLOCK_BANK: Routine = Routine {
+    name: "write_unlock_bank",
+    inputs: "",
+    source: Source::Any(operations::write_unlock),
+    library: |c| ffi::write_unlock_bank(c.second.get_mut()).into(),
+    expected: |c| reference::write_unlock_bank(c.second.get_mut()).into(),
+};
+
+const WRITE_STORE_EDIT_BUFFER: Routine = Routine {
+    name: "write_store_edit_buffer",
+    inputs: "",
+    source: Source::Any(operations::write_store),
+    library: |c| {
+        let [number, bank, id, _] = c.bytes;
+        ffi::write_store_edit_buffer(number, bank, id, c.second.get_mut()).into()
+    },
+    expected: |c| {
+        let [number, bank, id, _] = c.bytes;
+        reference::write_store_edit_buffer(number, bank, id, c.second.get_mut()).into()
+    },
+};
+
+const UNIT_STEP: Routine = Routine {
+    name: "unit_step",
+    inputs: "",
+    source: Source::Any(units::step),
+    library: |c| ffi::unit_step(c.unit, c.first.get(), c.place).into(),
+    expected: |c| units::expected(c).into(),
+};
+
 const WRITE_BANK: Routine = Routine {
     name: "write_bank",
     inputs: "",
@@ -506,16 +602,32 @@ const SENT: &str = ", every edit sent";
 const EDITS: &str = ", every parameter and value";
 const BUS_EDITS: &str = ", every bus, source and destination";
 
+/// What operations are called that are sent: each byte of them through all that a message carries, each
+/// replaced by every byte, and those of other lengths.
+const OPERATIONS: &str = ", every operation sent";
+const REPLACED_IN: &str = ", every byte for every byte of an operation";
+const LENGTHS: &str = ", every length of an operation";
+
+/// What the outputs are called that a writer may find too short.
+const ROOMS: &str = ", every length of output";
+
 /// What pairs are called that differ in one byte or in none.
 const CHANGED: &str = ", every byte at every place of either patch";
 
-pub static ROUTINES: [Routine; 84] = [
+pub static ROUTINES: [Routine; 115] = [
     WALK,
     WALK.on(NOISY, Source::Any(calls::walk_noisy)),
     WALK.on_every(SENT, 2 << 14, calls::every_edit_sent),
     WALK.finding(found::in_dump),
     WALK.finding_in_splits(found::in_split_dump),
     WALK.on_every(NIBBLES, slips::NIBBLES, slips::read_nibble),
+    WALK.on_every(OPERATIONS, operations::SENT, operations::every_sent),
+    WALK.on_every(
+        REPLACED_IN,
+        operations::REPLACED,
+        operations::every_replaced,
+    ),
+    WALK.on_every(LENGTHS, operations::LENGTHS, operations::every_length),
     READ,
     READ.on(NOISY, Source::Any(calls::read_noisy)),
     READ.on_every(AMOUNTS, 1 << 16, calls::every_amount_sent),
@@ -525,6 +637,13 @@ pub static ROUTINES: [Routine; 84] = [
     READ.on_every(EXCHANGED, slips::EXCHANGES, slips::read_exchange),
     READ.on_every(REPLACED, slips::PAIRS, slips::read_pair),
     READ.on_every(NIBBLES, slips::NIBBLES, slips::read_nibble),
+    READ.on_every(OPERATIONS, operations::SENT, operations::every_sent),
+    READ.on_every(
+        REPLACED_IN,
+        operations::REPLACED,
+        operations::every_replaced,
+    ),
+    READ.on_every(LENGTHS, operations::LENGTHS, operations::every_length),
     REPORTS,
     REPORTS.on(NOISY, Source::Any(calls::reports_noisy)),
     REPORTS.on_every(SENT, 2 << 14, calls::every_edit_sent),
@@ -533,6 +652,12 @@ pub static ROUTINES: [Routine; 84] = [
     REPORTS.on_every(EXCHANGED, slips::EXCHANGES, slips::report_exchange),
     REPORTS.on_every(REPLACED, slips::PAIRS, slips::report_pair),
     REPORTS.on_every(NIBBLES, slips::NIBBLES, slips::report_nibble),
+    REPORTS.on_every(OPERATIONS, operations::SENT, operations::every_sent),
+    REPORTS.on_every(
+        REPLACED_IN,
+        operations::REPLACED,
+        operations::every_replaced,
+    ),
     Routine {
         name: "cable_fresh",
         inputs: "",
@@ -550,6 +675,7 @@ pub static ROUTINES: [Routine; 84] = [
     CABLE_FEED.on(NEAR_LIMIT, Source::Any(feeds::feed_near_limit)),
     CABLE_FEED.on(STRANGE, Source::Any(feeds::feed_strange)),
     CABLE_FEED.finding_in_splits(found::in_split_fed),
+    CABLE_FEED.on_every(OPERATIONS, operations::SENT, operations::every_fed),
     CABLE_END,
     CABLE_END.on(NOISY, Source::Any(feeds::end_noisy)),
     CABLE_END.on(NEAR_LIMIT, Source::Any(feeds::end_near_limit)),
@@ -621,6 +747,56 @@ pub static ROUTINES: [Routine; 84] = [
     WRITE_BUS_EDIT,
     WRITE_BUS_EDIT.on_every(BUS_EDITS, 10 << 16, calls::every_bus_edit),
     WRITE_BUS_EDIT.on_every(AMOUNTS, 1 << 16, calls::every_amount),
+    WRITE_REQUEST_DATA,
+    WRITE_REQUEST_DATA.on_every(
+        ", every type and number",
+        operations::PAIRS,
+        operations::every_pair,
+    ),
+    WRITE_REQUEST_DATA.on_every(ROOMS, operations::ROOMS, operations::every_request_room),
+    WRITE_GROUP_MODE,
+    WRITE_GROUP_MODE.on_every(
+        ", every total and ID",
+        operations::PAIRS,
+        operations::every_pair,
+    ),
+    WRITE_GROUP_MODE.on_every(ROOMS, operations::ROOMS, operations::every_group_room),
+    WRITE_SET_BANK,
+    WRITE_SET_BANK.on_every(", every bank", operations::BANKS, operations::every_bank),
+    WRITE_SET_BANK.on_every(ROOMS, operations::ROOMS, operations::every_bank_room),
+    WRITE_UNLOCK_BANK,
+    WRITE_UNLOCK_BANK.on_every(ROOMS, operations::ROOMS, operations::every_unlock_room),
+    WRITE_STORE_EDIT_BUFFER,
+    WRITE_STORE_EDIT_BUFFER.on_every(
+        ", every number, bank and ID",
+        operations::STORES,
+        operations::every_store,
+    ),
+    WRITE_STORE_EDIT_BUFFER.on_every(ROOMS, operations::ROOMS, operations::every_store_room),
+    UNIT_STEP,
+    UNIT_STEP.on(NOISY, Source::Any(units::step_noisy)),
+    UNIT_STEP.on_every(", from every place", units::PLACES, units::step_place),
+    UNIT_STEP.on_every(OPERATIONS, operations::SENT, operations::every_sent),
+    UNIT_STEP.on_every(
+        REPLACED_IN,
+        operations::REPLACED,
+        operations::every_replaced,
+    ),
+    UNIT_STEP.on_every(LENGTHS, operations::LENGTHS, operations::every_length),
+    Routine {
+        name: "unit_step",
+        inputs: ", chains of units",
+        source: Source::Any(units::any_chain),
+        library: |c| Returned::new(vec![units::library_chain(c)]),
+        expected: |c| Returned::new(vec![units::expected_chain(c)]),
+    },
+    Routine {
+        name: "unit_meant",
+        inputs: ", every unit and ID",
+        source: Source::Every(units::IDS, units::every_id),
+        library: |c| ffi::unit_meant(c.unit, c.bytes[0]).into(),
+        expected: |c| units::plain(c.unit).is_meant(c.bytes[0]).into(),
+    },
     WRITE_BANK,
     WRITE_BANK.finding(found::in_bank),
     PLAN,

@@ -2,7 +2,7 @@
 //! neighbouring bytes exchanged or the two nibbles of a packed byte replaced. And every nibble of several
 //! splits replaced by every byte.
 
-use compare::ffi::{A_CALL, EMPTY};
+use compare::ffi::{Unit, A_CALL, EMPTY};
 use reference::streams::damage::{damageable, low_nibble, Damage};
 use reference::streams::{inputs, Random};
 use reference::{write_edit_buffer, write_patch, write_split, PATCH_LENGTH, SPLIT_LENGTH};
@@ -104,6 +104,7 @@ fn read(random: &mut Random, stream: &[u8]) -> Call {
         room: Lent::filled(random, 0),
         place: DUMP,
         bytes: [0; 4],
+        unit: Unit::default(),
         third: Lent::filled(random, 0),
         run: None,
     }

@@ -9,7 +9,7 @@
 
 use std::arch::asm;
 
-use compare::ffi::{Cable, A_CALL, EMPTY};
+use compare::ffi::{Cable, Unit, A_CALL, EMPTY};
 use reference::streams::{self, Random};
 use reference::{reports, CableReader};
 
@@ -152,6 +152,34 @@ entries! {
         let [bus, source, amount, destination] = c.bytes.map(usize::from);
         [bus, source, amount, destination, out, size]
     },
+    write_request_data as matrix_write_request_data: |c, _| {
+        let (out, size) = written(&mut c.second);
+        let [wanted, number, ..] = c.bytes.map(usize::from);
+        [wanted, number, out, size, 0, 0]
+    },
+    write_group_mode as matrix_write_group_mode: |c, _| {
+        let (out, size) = written(&mut c.second);
+        let [total, id, ..] = c.bytes.map(usize::from);
+        [total, id, out, size, 0, 0]
+    },
+    write_set_bank as matrix_write_set_bank: |c, _| {
+        let (out, size) = written(&mut c.second);
+        [c.bytes[0].into(), out, size, 0, 0, 0]
+    },
+    write_unlock_bank as matrix_write_unlock_bank: |c, _| {
+        let (out, size) = written(&mut c.second);
+        [out, size, 0, 0, 0, 0]
+    },
+    write_store_edit_buffer as matrix_write_store_edit_buffer: |c, _| {
+        let (out, size) = written(&mut c.second);
+        let [number, bank, id, _] = c.bytes.map(usize::from);
+        [number, bank, id, out, size, 0]
+    },
+    unit_step as matrix_unit_step: |c, struct_at| {
+        let (s, length) = read(&c.first);
+        [struct_at, unit(c.unit), s, length, c.place, 0]
+    },
+    unit_meant as matrix_unit_meant: |c, _| [unit(c.unit), c.bytes[0].into(), 0, 0, 0, 0],
     write_bank as matrix_write_bank: |c, struct_at| {
         let (ps, length) = read(&c.first);
         let (out, size) = written(&mut c.second);
@@ -181,6 +209,17 @@ fn read(lent: &Lent<u8>) -> (usize, usize) {
 fn written<T: Copy + Fill>(lent: &mut Lent<T>) -> (usize, usize) {
     let slice = lent.get_mut();
     (slice.as_mut_ptr() as usize, slice.len())
+}
+
+/// A unit as C has it: a struct of four bytes in one register, the first lowest.
+fn unit(unit: Unit) -> usize {
+    let Unit {
+        bank,
+        locked,
+        grouped,
+        number,
+    } = unit;
+    u32::from_le_bytes([bank, locked.into(), grouped.into(), number]) as usize
 }
 
 /// The record of a reader.
@@ -216,7 +255,7 @@ impl Entry {
     }
 
     fn reads_stream(&self) -> bool {
-        matches!(self.name, "walk" | "read" | "reports")
+        matches!(self.name, "walk" | "read" | "reports" | "unit_step")
     }
 
     /// The calls that are measured for an input.
@@ -278,6 +317,7 @@ fn deep_calls(seed: u64) -> Vec<Call> {
                 room: Lent::filled(&mut random, A_CALL * EMPTY.len()),
                 place,
                 bytes: [0; 4],
+                unit: Unit::default(),
                 third: Lent::filled(&mut random, 0),
                 run: None,
             });

@@ -12,12 +12,12 @@ pub const INTERRUPTED: u8 = 3;
 pub const OTHER_MANUFACTURER: u8 = 4;
 /// The next isn't 06H.
 pub const OTHER_DEVICE: u8 = 5;
-/// The opcode isn't among the six.
+/// The opcode isn't among the eleven.
 pub const OTHER_OPCODE: u8 = 6;
 /// Wrong length, of a message or of something lent.
 pub const WRONG_LENGTH: u8 = 7;
 /// A patch or split number, version, zero, parameter, bus, name character, value or amount not
-/// allowed.
+/// allowed; or a byte of an operation.
 pub const NOT_ALLOWED: u8 = 8;
 /// A data byte above 15.
 pub const WIDE_DATA: u8 = 9;
@@ -97,7 +97,7 @@ pub struct Reading {
     pub value: i16,
     /// How many bytes F8H..FFH stand from the start to the end, which is not included.
     pub noise: usize,
-    /// The number of a patch or a split, or an edit's two or four bytes, as received; zero
+    /// The number of a patch or a split, or the bytes of an edit or an operation, as received; zero
     /// elsewhere.
     pub bytes: [u8; 4],
 }

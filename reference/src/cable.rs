@@ -26,7 +26,7 @@ pub struct Fed {
     /// The report of the message that ended, with places from the first byte taken. Where none did,
     /// the answer 1 or 21 with its places; all zeros for a feed that is done.
     pub report: Report,
-    /// The number of a patch or a split, or an edit's two or four bytes, as received; zero
+    /// The number of a patch or a split, or the bytes of an edit or an operation, as received; zero
     /// elsewhere.
     pub bytes: [u8; 4],
 }

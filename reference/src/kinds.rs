@@ -1,4 +1,4 @@
-//! The six message kinds: opcodes, lengths and the bytes before them.
+//! The eleven message kinds: opcodes, lengths and the bytes before them.
 
 /// The manufacturer's number.
 pub const OBERHEIM: u8 = 0x10;
@@ -10,6 +10,16 @@ pub const VERSION: u8 = 3;
 pub const LAST_NUMBER: u8 = 99;
 /// The greatest split number.
 pub const LAST_SPLIT: u8 = 49;
+/// The greatest bank number.
+pub const LAST_BANK: u8 = 9;
+/// The fewest units in a group.
+pub const FEWEST_UNITS: u8 = 2;
+/// The most units in a group.
+pub const MOST_UNITS: u8 = 6;
+/// The greatest ID of a unit in a group.
+pub const LAST_ID: u8 = 5;
+/// The ID of a store message for any unit in a group.
+pub const ANY_UNIT: u8 = 0x7F;
 /// The number of packed bytes in a master.
 pub const MASTER_LENGTH: usize = 172;
 
@@ -24,12 +34,34 @@ pub mod opcode {
     pub const SPLIT: u8 = 0x02;
     /// Master parameters.
     pub const MASTER: u8 = 0x03;
+    /// Request data.
+    pub const REQUEST_DATA: u8 = 0x04;
     /// Remote edit.
     pub const REMOTE_EDIT: u8 = 0x06;
+    /// Group mode.
+    pub const GROUP_MODE: u8 = 0x07;
+    /// Set bank.
+    pub const SET_BANK: u8 = 0x0A;
     /// Matrix modulation edit.
     pub const BUS_EDIT: u8 = 0x0B;
+    /// Unlock bank.
+    pub const UNLOCK_BANK: u8 = 0x0C;
     /// Patch to edit buffer.
     pub const EDIT_BUFFER: u8 = 0x0D;
+    /// Store edit buffer.
+    pub const STORE_EDIT_BUFFER: u8 = 0x0E;
+}
+
+/// What a request is for: the types that 000 names.
+pub mod request {
+    /// All patches in the current bank, and the master parameters.
+    pub const ALL: u8 = 0;
+    /// A single patch from the current bank.
+    pub const SINGLE_PATCH: u8 = 1;
+    /// The master parameters.
+    pub const MASTER: u8 = 3;
+    /// The edit buffer.
+    pub const EDIT_BUFFER: u8 = 4;
 }
 
 /// The length of each kind, F0H and F7H included, without real time.
@@ -40,10 +72,20 @@ pub mod length {
     pub const SPLIT: usize = 43;
     /// Master parameters, the longest.
     pub const MASTER: usize = 351;
+    /// Request data.
+    pub const REQUEST_DATA: usize = 7;
     /// Remote edit.
     pub const REMOTE_EDIT: usize = 7;
+    /// Group mode.
+    pub const GROUP_MODE: usize = 7;
+    /// Set bank.
+    pub const SET_BANK: usize = 6;
     /// Matrix modulation edit.
     pub const BUS_EDIT: usize = 9;
+    /// Unlock bank, the shortest.
+    pub const UNLOCK_BANK: usize = 5;
     /// Patch to edit buffer.
     pub const EDIT_BUFFER: usize = 275;
+    /// Store edit buffer.
+    pub const STORE_EDIT_BUFFER: usize = 8;
 }

@@ -1,5 +1,5 @@
-//! Oberheim Matrix-1000 and Matrix-6R system exclusive dumps: reading, testing, editing, writing and
-//! listing.
+//! Oberheim Matrix-1000 and Matrix-6R system exclusive messages: reading, testing, editing, writing
+//! and listing; and a model of a unit.
 //!
 //! An independent second program, written from the papers only. It makes dumps and the answers
 //! expected for them, against which the register's library is compared byte for byte.
@@ -29,6 +29,7 @@ pub mod kinds;
 mod listing;
 mod names;
 pub mod nibbles;
+mod operations;
 mod patch;
 mod plans;
 mod reading;
@@ -37,6 +38,7 @@ mod rows;
 pub mod splits;
 pub mod streams;
 pub mod table;
+mod units;
 mod writing;
 
 pub use answers::{BankOutcome, Outcome, RangeOutcome, Reading, Report, ValueOutcome};
@@ -52,7 +54,9 @@ pub use plans::{check_plan, plan, LONGEST_PLAN};
 pub use reading::{read, reports, walk, Reports};
 pub use splits::{outside_split, test_split, SPLIT_LENGTH};
 pub use table::{outside, parameter_of, place_of, PATCH_LENGTH};
+pub use units::{feed_chain, Step, Unit};
 pub use writing::{
-    write_bank, write_bus_edit, write_edit, write_edit_buffer, write_master, write_patch,
-    write_split, BANK_PATCHES,
+    write_bank, write_bus_edit, write_edit, write_edit_buffer, write_group_mode, write_master,
+    write_patch, write_request_data, write_set_bank, write_split, write_store_edit_buffer,
+    write_unlock_bank, BANK_PATCHES,
 };

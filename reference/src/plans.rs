@@ -8,7 +8,7 @@ use crate::kinds::{length, opcode, MATRIX, OBERHEIM};
 use crate::names::NAME_LENGTH;
 use crate::patch::{tested, Patch, BUSES};
 use crate::table::{parameter_of, PATCH_LENGTH};
-use crate::writing::{put_edit, room};
+use crate::writing::{put_message, room};
 
 /// The length of the list for two patches that differ in all 96 parameters and all ten buses.
 pub const LONGEST_PLAN: usize = 96 * length::REMOTE_EDIT + 10 * length::BUS_EDIT;
@@ -123,12 +123,12 @@ impl Part {
         match self {
             Self::Parameter { place, parameter } => {
                 let body = [parameter, sent(patch[place])];
-                put_edit(opcode::REMOTE_EDIT, &body, out)
+                put_message(opcode::REMOTE_EDIT, &body, out)
             }
             Self::Bus { place, bus } => {
                 let [source, amount, destination] = bus_at(patch, place);
                 let body = [bus, source, sent(amount), destination];
-                put_edit(opcode::BUS_EDIT, &body, out)
+                put_message(opcode::BUS_EDIT, &body, out)
             }
         }
     }

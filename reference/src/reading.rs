@@ -9,6 +9,17 @@ use crate::records::Record;
 /// The first message that starts at `place` or later; answer 1 when there is none.
 #[inline]
 pub fn walk(input: &[u8], place: usize) -> Report {
+    let (report, _) = walk_and(input, place, |_| ());
+    report
+}
+
+/// The same with what is told of the message's record, if it has one.
+#[inline]
+pub(crate) fn walk_and<T>(
+    input: &[u8],
+    place: usize,
+    tell: impl FnOnce(&Record) -> T,
+) -> (Report, Option<T>) {
     let Some(Frame {
         start,
         end,
@@ -16,7 +27,7 @@ pub fn walk(input: &[u8], place: usize) -> Report {
         ending,
     }) = next_frame(input, place)
     else {
-        return Report {
+        let nothing = Report {
             start: input.len(),
             end: input.len(),
             answer: NO_MESSAGE,
@@ -24,21 +35,27 @@ pub fn walk(input: &[u8], place: usize) -> Report {
             value: 0,
             noise: 0,
         };
+        return (nothing, None);
     };
-    let judged = Record::of(ending, noise).map(|record| usize::from(record.opcode()));
+    let mut told = None;
+    let judged = Record::of(ending, noise).map(|record| {
+        told = Some(tell(&record));
+        usize::from(record.opcode())
+    });
     let Outcome {
         answer,
         detail,
         value,
     } = judged.into();
-    Report {
+    let report = Report {
         start,
         end,
         answer,
         detail,
         value,
         noise,
-    }
+    };
+    (report, told)
 }
 
 /// Reads a record: answers as the walk does, then 13, and puts a dump's packed bytes at the

@@ -10,6 +10,7 @@ use crate::kinds::{
     length, opcode, ENVELOPE, LAST_NUMBER, LAST_SPLIT, MASTER_LENGTH, MATRIX, OBERHEIM, VERSION,
 };
 use crate::nibbles::{first_wide, pack, sum};
+use crate::operations::Operation;
 use crate::patch::{self, Patch};
 use crate::splits::{self, Split, SPLIT_LENGTH};
 use crate::table::PATCH_LENGTH;
@@ -22,6 +23,7 @@ pub(crate) enum Record {
     RemoteEdit { bytes: [u8; 2] },
     BusEdit { bytes: [u8; 4] },
     EditBuffer { patch: Patch },
+    Operation(Operation),
 }
 
 impl Record {
@@ -45,11 +47,12 @@ impl Record {
             Self::RemoteEdit { .. } => opcode::REMOTE_EDIT,
             Self::BusEdit { .. } => opcode::BUS_EDIT,
             Self::EditBuffer { .. } => opcode::EDIT_BUFFER,
+            Self::Operation(operation) => operation.opcode(),
         }
     }
 
-    /// The number of a patch or a split, or an edit's bytes, as received; zero where the message
-    /// has none.
+    /// The number of a patch or a split, or the bytes of an edit or an operation, as received; zero
+    /// where the message has none.
     pub const fn bytes(&self) -> [u8; 4] {
         match *self {
             Self::SinglePatch { number, .. } | Self::Split { number, .. } => [number, 0, 0, 0],
@@ -57,22 +60,31 @@ impl Record {
                 bytes: [parameter, value],
             } => [parameter, value, 0, 0],
             Self::BusEdit { bytes } => bytes,
+            Self::Operation(operation) => operation.bytes(),
             Self::Master { .. } | Self::EditBuffer { .. } => [0; 4],
         }
     }
 
-    /// A dump's packed bytes; none for an edit.
+    /// A dump's packed bytes; none for an edit or an operation.
     pub const fn packed(&self) -> &[u8] {
         match self {
             Self::SinglePatch { patch, .. } | Self::EditBuffer { patch } => patch,
             Self::Split { split, .. } => split,
             Self::Master { master } => master,
-            Self::RemoteEdit { .. } | Self::BusEdit { .. } => &[],
+            Self::RemoteEdit { .. } | Self::BusEdit { .. } | Self::Operation(_) => &[],
+        }
+    }
+
+    /// The operation, if it is one.
+    pub const fn operation(&self) -> Option<Operation> {
+        match *self {
+            Self::Operation(operation) => Some(operation),
+            _ => None,
         }
     }
 }
 
-/// The most bytes between F0H and F7H that a message of the six kinds has, real time dropped.
+/// The most bytes between F0H and F7H that a message of the eleven kinds has, real time dropped.
 const LONGEST: usize = length::MASTER - 2;
 
 /// Real time is dropped from this many bytes at a time.
@@ -149,6 +161,11 @@ pub(crate) fn parse(content: &[u8]) -> Result<Record, Refusal> {
         opcode::REMOTE_EDIT => remote_edit(*exact(body)?),
         opcode::BUS_EDIT => bus_edit(*exact(body)?),
         opcode::EDIT_BUFFER => edit_buffer(exact(body)?),
+        opcode::REQUEST_DATA => request_data(*exact(body)?),
+        opcode::GROUP_MODE => group_mode(*exact(body)?),
+        opcode::SET_BANK => set_bank(*exact(body)?),
+        opcode::UNLOCK_BANK => unlock_bank(*exact(body)?),
+        opcode::STORE_EDIT_BUFFER => store_edit_buffer(*exact(body)?),
         _ => Err(Refusal::plain(OTHER_OPCODE)),
     }
 }
@@ -203,6 +220,34 @@ fn bus_edit(bytes: [u8; length::BUS_EDIT - ENVELOPE]) -> Result<Record, Refusal>
     let [bus, source, amount, destination] = bytes;
     BusChange::new(bus, source, amount, destination)?;
     Ok(Record::BusEdit { bytes })
+}
+
+fn request_data(bytes: [u8; length::REQUEST_DATA - ENVELOPE]) -> Result<Record, Refusal> {
+    let [wanted, number] = bytes;
+    operation(Operation::RequestData { wanted, number })
+}
+
+fn group_mode(bytes: [u8; length::GROUP_MODE - ENVELOPE]) -> Result<Record, Refusal> {
+    let [total, id] = bytes;
+    operation(Operation::GroupMode { total, id })
+}
+
+fn set_bank(bytes: [u8; length::SET_BANK - ENVELOPE]) -> Result<Record, Refusal> {
+    let [bank] = bytes;
+    operation(Operation::SetBank { bank })
+}
+
+fn unlock_bank(_: [u8; length::UNLOCK_BANK - ENVELOPE]) -> Result<Record, Refusal> {
+    operation(Operation::UnlockBank)
+}
+
+fn store_edit_buffer(bytes: [u8; length::STORE_EDIT_BUFFER - ENVELOPE]) -> Result<Record, Refusal> {
+    let [number, bank, id] = bytes;
+    operation(Operation::StoreEditBuffer { number, bank, id })
+}
+
+fn operation(operation: Operation) -> Result<Record, Refusal> {
+    operation.tested().map(Record::Operation)
 }
 
 fn allow(allowed: bool) -> Result<(), Refusal> {

@@ -7,6 +7,7 @@ use crate::kinds::{
     length, opcode, ENVELOPE, LAST_NUMBER, LAST_SPLIT, MASTER_LENGTH, MATRIX, OBERHEIM, VERSION,
 };
 use crate::nibbles::{sum, unpack};
+use crate::operations::Operation;
 use crate::patch::{sized, test, tested, Patch};
 use crate::splits::{self, Split};
 use crate::table::PATCH_LENGTH;
@@ -46,7 +47,7 @@ pub fn write_master(master: &[u8], out: &mut [u8]) -> Outcome {
 /// Writes a remote edit (06H): 8, 11, 13.
 pub fn write_edit(parameter: u8, value: u8, out: &mut [u8]) -> Outcome {
     Change::new(parameter, value)
-        .and_then(|_| put_edit(opcode::REMOTE_EDIT, &[parameter, value], out))
+        .and_then(|_| put_message(opcode::REMOTE_EDIT, &[parameter, value], out))
         .into()
 }
 
@@ -54,8 +55,33 @@ pub fn write_edit(parameter: u8, value: u8, out: &mut [u8]) -> Outcome {
 pub fn write_bus_edit(bus: u8, source: u8, amount: u8, destination: u8, out: &mut [u8]) -> Outcome {
     let body = [bus, source, amount, destination];
     BusChange::new(bus, source, amount, destination)
-        .and_then(|_| put_edit(opcode::BUS_EDIT, &body, out))
+        .and_then(|_| put_message(opcode::BUS_EDIT, &body, out))
         .into()
+}
+
+/// Writes a request for data (04H), its type first: 8, 13.
+pub fn write_request_data(wanted: u8, number: u8, out: &mut [u8]) -> Outcome {
+    put_operation(Operation::RequestData { wanted, number }, out).into()
+}
+
+/// Writes a group message (07H): 8, 13.
+pub fn write_group_mode(total: u8, id: u8, out: &mut [u8]) -> Outcome {
+    put_operation(Operation::GroupMode { total, id }, out).into()
+}
+
+/// Writes a bank message (0AH): 8, 13.
+pub fn write_set_bank(bank: u8, out: &mut [u8]) -> Outcome {
+    put_operation(Operation::SetBank { bank }, out).into()
+}
+
+/// Writes an unlock message (0CH): 13.
+pub fn write_unlock_bank(out: &mut [u8]) -> Outcome {
+    put_operation(Operation::UnlockBank, out).into()
+}
+
+/// Writes a store message (0EH): 8, 13.
+pub fn write_store_edit_buffer(number: u8, bank: u8, id: u8, out: &mut [u8]) -> Outcome {
+    put_operation(Operation::StoreEditBuffer { number, bank, id }, out).into()
 }
 
 /// Writes a bank: 0 to 100 patches end to end, as dumps numbered from 0.
@@ -122,8 +148,15 @@ pub(crate) fn room(out: &mut [u8], length: usize) -> Result<&mut [u8], Refusal> 
     out.get_mut(..length).ok_or(Refusal::plain(TOO_SHORT))
 }
 
-/// Puts an edit into the output and gives its length.
-pub(crate) fn put_edit(opcode: u8, body: &[u8], out: &mut [u8]) -> Result<usize, Refusal> {
+/// Puts an operation into the output and gives its length: 8, 13.
+fn put_operation(operation: Operation, out: &mut [u8]) -> Result<usize, Refusal> {
+    let operation = operation.tested()?;
+    let body = &operation.bytes()[..operation.length() - ENVELOPE];
+    put_message(operation.opcode(), body, out)
+}
+
+/// Puts a message without data and sum into the output and gives its length.
+pub(crate) fn put_message(opcode: u8, body: &[u8], out: &mut [u8]) -> Result<usize, Refusal> {
     let message = room(out, ENVELOPE + body.len())?;
     message[..4].copy_from_slice(&[START, OBERHEIM, MATRIX, opcode]);
     message[4..][..body.len()].copy_from_slice(body);

@@ -160,13 +160,13 @@ impl Reader {
     /// The first bytes of the message that is open, of which a refusal may speak; none where no message
     /// is open.
     fn opening(&self) -> impl Iterator<Item = u8> {
-        let [maker, device, opcode, behind, ..] = self.state.bytes;
+        let [maker, device, opcode, first, second, third, ..] = self.state.bytes;
         let known = if self.is_open() {
             1 + self.state.count
         } else {
             0
         };
-        let opening = [0xF0, maker, device, opcode, behind];
+        let opening = [0xF0, maker, device, opcode, first, second, third];
         opening.into_iter().take(known)
     }
 

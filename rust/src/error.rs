@@ -3,7 +3,7 @@
 use std::{fmt, io};
 
 use crate::ffi;
-use crate::{Bank, Format, Kind, Master, Parameter, Patch, Reader, Split};
+use crate::{Bank, Format, Kind, Master, Parameter, Patch, Reader, Split, Unit};
 
 /// Why something was refused: the register's number with its detail and value, and in print a sentence
 /// that says what was found and what is expected.
@@ -38,7 +38,7 @@ pub enum Error {
     OtherMaker,
     /// 5: the message is for another device, or for none.
     OtherDevice,
-    /// 6: the opcode is not among the six, or there is none.
+    /// 6: the opcode is not among the eleven, or there is none.
     OtherOpcode,
     /// 7: the length is wrong.
     WrongLength(Length),
@@ -132,6 +132,18 @@ pub enum NotAllowed {
     SplitNumber(u8),
     /// As the version of a master.
     Version(u8),
+    /// As the type of a request.
+    RequestType(u8),
+    /// As the number of a request that asks for no single patch.
+    RequestNumber(u8),
+    /// As the total of a group: how many units it has.
+    Total(u8),
+    /// As the number of a unit in its group.
+    UnitNumber(u8),
+    /// As a bank.
+    Bank(u8),
+    /// As the ID of a store message.
+    Target(u8),
     /// Behind the opcode of a patch to the edit buffer.
     Zero(u8),
     /// As a parameter number.
@@ -243,8 +255,8 @@ impl Error {
         })
     }
 
-    /// Of a writer of edits or patches that was lent no room: 13 says that every test before it was
-    /// passed.
+    /// Of a writer of edits, operations or patches that was lent no room: 13 says that every test before
+    /// it was passed.
     pub(crate) fn tested(
         outcome: ffi::Outcome,
         about: impl FnOnce(Bare) -> Self,
@@ -315,7 +327,8 @@ impl fmt::Display for Length {
         match self {
             Self::Message { kind, found } => {
                 let length = kind.length();
-                write!(f, "a {kind} message has {length} bytes, not {found}")
+                let a = if *kind == Kind::UnlockBank { "an" } else { "a" };
+                write!(f, "{a} {kind} message has {length} bytes, not {found}")
             }
             Self::Patch(found) => write!(f, "a patch has {} bytes, not {found}", Patch::LENGTH),
             Self::Split(found) => write!(f, "a split has {} bytes, not {found}", Split::LENGTH),
@@ -352,6 +365,32 @@ impl fmt::Display for NotAllowed {
                 write!(f, "split number {found} is not allowed: 0 to {last}")
             }
             Self::Version(found) => write!(f, "version {found} of a master is not allowed: 3"),
+            Self::RequestType(found) => {
+                write!(f, "type {found} of a request is not allowed: 0, 1, 3 or 4")
+            }
+            Self::RequestNumber(found) => write!(
+                f,
+                "number {found} of a request that asks for no single patch is not allowed: 0"
+            ),
+            Self::Total(found) => {
+                let most = Unit::GROUP;
+                write!(f, "group total {found} is not allowed: 2 to {most}")
+            }
+            Self::UnitNumber(found) => {
+                let last = Unit::GROUP - 1;
+                write!(f, "unit number {found} is not allowed: 0 to {last}")
+            }
+            Self::Bank(found) => {
+                let last = Unit::BANKS - 1;
+                write!(f, "bank {found} is not allowed: 0 to {last}")
+            }
+            Self::Target(found) => {
+                let last = Unit::GROUP - 1;
+                write!(
+                    f,
+                    "ID {found} of a store message is not allowed: 0 to {last}, or 127 for any unit"
+                )
+            }
             Self::Zero(found) => {
                 let kind = Kind::EditBuffer;
                 write!(f, "{found} behind the opcode of a {kind} is not allowed: 0")

@@ -39,8 +39,38 @@ pub struct Report {
 pub struct Reading {
     /// What is said of it.
     pub report: Report,
-    /// The number of a patch or a split, or an edit's two or four bytes; zero elsewhere.
+    /// The number of a patch or a split, or the bytes of an edit or an operation; zero elsewhere.
     pub bytes: [u8; 4],
+}
+
+/// What a unit keeps of the operations that it is sent.
+#[repr(C)]
+#[derive(Clone, Copy, Debug, PartialEq, Eq, Hash, Default)]
+pub struct Unit {
+    /// Its bank.
+    pub bank: u8,
+    /// Whether the bank is locked.
+    pub locked: bool,
+    /// Whether group mode is on.
+    pub grouped: bool,
+    /// Its number in the group, which counts while group mode is on.
+    pub number: u8,
+}
+
+/// What a message does to a unit.
+#[repr(C)]
+#[derive(Clone, Copy, Debug, PartialEq, Eq)]
+pub struct Step {
+    /// What is said of the message.
+    pub report: Report,
+    /// The unit after it.
+    pub unit: Unit,
+    /// Whether it is a store message that is meant for this unit.
+    pub meant: bool,
+    /// How many bytes are sent on: 0 or 7.
+    pub count: u8,
+    /// The message that is sent on, else zeros.
+    pub sent: [u8; 7],
 }
 
 /// What writing a bank came to.
@@ -124,6 +154,7 @@ pub struct Fed {
 // As the header for C has them.
 const _: () = assert!(size_of::<Cable>() == 392 && align_of::<Cable>() == 8);
 const _: () = assert!(size_of::<Fed>() == 64);
+const _: () = assert!(size_of::<Unit>() == 4 && size_of::<Step>() == 56);
 
 /// The most reports that the library makes in a call.
 pub const A_CALL: usize = 8;
@@ -157,7 +188,9 @@ impl From<Flat> for Report {
 pub const NONE: u8 = 255;
 
 mod raw {
-    use super::{BankOutcome, Cable, Fed, Held, Listed, Outcome, Range, Reading, Report};
+    use super::{
+        BankOutcome, Cable, Fed, Held, Listed, Outcome, Range, Reading, Report, Step, Unit,
+    };
 
     unsafe extern "C" {
         pub unsafe fn matrix_walk(s: *const u8, s_len: usize, place: usize) -> Report;
@@ -254,6 +287,34 @@ mod raw {
             out: *mut u8,
             out_len: usize,
         ) -> Outcome;
+        pub unsafe fn matrix_write_request_data(
+            kind: u8,
+            number: u8,
+            out: *mut u8,
+            out_len: usize,
+        ) -> Outcome;
+        pub unsafe fn matrix_write_group_mode(
+            total: u8,
+            id: u8,
+            out: *mut u8,
+            out_len: usize,
+        ) -> Outcome;
+        pub unsafe fn matrix_write_set_bank(bank: u8, out: *mut u8, out_len: usize) -> Outcome;
+        pub unsafe fn matrix_write_unlock_bank(out: *mut u8, out_len: usize) -> Outcome;
+        pub unsafe fn matrix_write_store_edit_buffer(
+            number: u8,
+            bank: u8,
+            id: u8,
+            out: *mut u8,
+            out_len: usize,
+        ) -> Outcome;
+        pub unsafe fn matrix_unit_step(
+            unit: Unit,
+            s: *const u8,
+            s_len: usize,
+            place: usize,
+        ) -> Step;
+        pub safe fn matrix_unit_meant(unit: Unit, id: u8) -> bool;
         pub unsafe fn matrix_write_bank(
             ps: *const u8,
             ps_len: usize,
@@ -445,6 +506,54 @@ pub fn write_bus_edit(edit: [u8; 4], out: &mut [u8]) -> Outcome {
             out.len(),
         )
     }
+}
+
+/// Writes a request for data (04H), its type first.
+#[inline]
+pub fn write_request_data(kind: u8, number: u8, out: &mut [u8]) -> Outcome {
+    // SAFETY: one slice with its own length; `out`, which is written, is `&mut`.
+    unsafe { raw::matrix_write_request_data(kind, number, out.as_mut_ptr(), out.len()) }
+}
+
+/// Writes group mode (07H).
+#[inline]
+pub fn write_group_mode(total: u8, id: u8, out: &mut [u8]) -> Outcome {
+    // SAFETY: one slice with its own length; `out`, which is written, is `&mut`.
+    unsafe { raw::matrix_write_group_mode(total, id, out.as_mut_ptr(), out.len()) }
+}
+
+/// Writes set bank (0AH).
+#[inline]
+pub fn write_set_bank(bank: u8, out: &mut [u8]) -> Outcome {
+    // SAFETY: one slice with its own length; `out`, which is written, is `&mut`.
+    unsafe { raw::matrix_write_set_bank(bank, out.as_mut_ptr(), out.len()) }
+}
+
+/// Writes unlock bank (0CH).
+#[inline]
+pub fn write_unlock_bank(out: &mut [u8]) -> Outcome {
+    // SAFETY: one slice with its own length; `out`, which is written, is `&mut`.
+    unsafe { raw::matrix_write_unlock_bank(out.as_mut_ptr(), out.len()) }
+}
+
+/// Writes store edit buffer (0EH).
+#[inline]
+pub fn write_store_edit_buffer(number: u8, bank: u8, id: u8, out: &mut [u8]) -> Outcome {
+    // SAFETY: one slice with its own length; `out`, which is written, is `&mut`.
+    unsafe { raw::matrix_write_store_edit_buffer(number, bank, id, out.as_mut_ptr(), out.len()) }
+}
+
+/// What the first message that starts at `place` or later does to a unit.
+#[inline]
+pub fn unit_step(unit: Unit, s: &[u8], place: usize) -> Step {
+    // SAFETY: one slice with its own length, not written.
+    unsafe { raw::matrix_unit_step(unit, s.as_ptr(), s.len(), place) }
+}
+
+/// Whether a store message with that ID is meant for a unit.
+#[inline]
+pub fn unit_meant(unit: Unit, id: u8) -> bool {
+    raw::matrix_unit_meant(unit, id)
 }
 
 /// Writes a bank.

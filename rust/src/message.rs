@@ -4,8 +4,11 @@ use std::{fmt, io};
 
 use crate::error::Bare;
 use crate::ffi;
+use crate::operations::{in_group_mode, in_request, in_store};
 use crate::stream::messages;
-use crate::{BusEdit, Edit, Error, Format, Length, NotAllowed, Patch, PatchEdit, Split};
+use crate::{
+    BusEdit, Edit, Error, Format, Length, NotAllowed, Patch, PatchEdit, Request, Split, Target,
+};
 
 /// The kinds of message.
 #[derive(Clone, Copy, Debug, PartialEq, Eq, Hash)]
@@ -17,15 +20,40 @@ pub enum Kind {
     Split,
     /// The master parameters (03H).
     Master,
+    /// A request for data (04H).
+    Request,
     /// A remote edit (06H).
     Edit,
+    /// Group mode (07H).
+    GroupMode,
+    /// Set bank (0AH).
+    SetBank,
     /// A matrix modulation edit (0BH).
     BusEdit,
+    /// Unlock bank (0CH).
+    UnlockBank,
     /// A patch to the edit buffer (0DH).
     EditBuffer,
+    /// Store edit buffer (0EH).
+    Store,
 }
 
 impl Kind {
+    /// Every kind, by rising opcode.
+    const ALL: [Self; 11] = [
+        Self::Patch,
+        Self::Split,
+        Self::Master,
+        Self::Request,
+        Self::Edit,
+        Self::GroupMode,
+        Self::SetBank,
+        Self::BusEdit,
+        Self::UnlockBank,
+        Self::EditBuffer,
+        Self::Store,
+    ];
+
     /// The opcode.
     #[must_use]
     pub const fn opcode(self) -> u8 {
@@ -33,9 +61,14 @@ impl Kind {
             Self::Patch => 0x01,
             Self::Split => 0x02,
             Self::Master => 0x03,
+            Self::Request => 0x04,
             Self::Edit => 0x06,
+            Self::GroupMode => 0x07,
+            Self::SetBank => 0x0A,
             Self::BusEdit => 0x0B,
+            Self::UnlockBank => 0x0C,
             Self::EditBuffer => 0x0D,
+            Self::Store => 0x0E,
         }
     }
 
@@ -46,31 +79,40 @@ impl Kind {
             Self::Patch | Self::EditBuffer => 275,
             Self::Split => 43,
             Self::Master => 351,
-            Self::Edit => 7,
+            Self::Request | Self::Edit | Self::GroupMode => 7,
+            Self::SetBank => 6,
             Self::BusEdit => 9,
+            Self::UnlockBank => 5,
+            Self::Store => 8,
         }
     }
 
     /// The format of the fields that are tested in reading: for an edit, of those it would set. A
-    /// master has none.
+    /// master and an operation have none.
     pub(crate) const fn format(self) -> Option<Format> {
         match self {
             Self::Patch | Self::Edit | Self::BusEdit | Self::EditBuffer => Some(Format::Patch),
             Self::Split => Some(Format::Split),
-            Self::Master => None,
+            _ => None,
         }
     }
 
-    /// What is not allowed where the byte behind the opcode is refused.
-    pub(crate) fn not_allowed(self, behind: u8) -> NotAllowed {
-        match self {
-            Self::Patch => NotAllowed::PatchNumber(behind),
-            Self::Split => NotAllowed::SplitNumber(behind),
-            Self::Master => NotAllowed::Version(behind),
-            Self::Edit => NotAllowed::Parameter(behind),
-            Self::BusEdit => NotAllowed::Bus(behind.into()),
-            Self::EditBuffer => NotAllowed::Zero(behind),
-        }
+    /// 8, with what is not allowed where one of the bytes behind the opcode is refused.
+    pub(crate) fn not_allowed(self, behind: [u8; 3]) -> Error {
+        let [first, ..] = behind;
+        Error::NotAllowed(match self {
+            Self::Patch => NotAllowed::PatchNumber(first),
+            Self::Split => NotAllowed::SplitNumber(first),
+            Self::Master => NotAllowed::Version(first),
+            Self::Request => in_request(behind),
+            Self::Edit => NotAllowed::Parameter(first),
+            Self::GroupMode => in_group_mode(behind),
+            Self::SetBank => NotAllowed::Bank(first),
+            Self::BusEdit => NotAllowed::Bus(first.into()),
+            Self::UnlockBank => unreachable!("there is nothing to refuse behind the opcode"),
+            Self::EditBuffer => NotAllowed::Zero(first),
+            Self::Store => in_store(behind),
+        })
     }
 }
 
@@ -79,15 +121,7 @@ impl TryFrom<u8> for Kind {
     type Error = Error;
 
     fn try_from(opcode: u8) -> Result<Self, Error> {
-        let kinds = [
-            Self::Patch,
-            Self::Split,
-            Self::Master,
-            Self::Edit,
-            Self::BusEdit,
-            Self::EditBuffer,
-        ];
-        let found = kinds.into_iter().find(|kind| kind.opcode() == opcode);
+        let found = Self::ALL.into_iter().find(|kind| kind.opcode() == opcode);
         found.ok_or(Error::OtherOpcode)
     }
 }
@@ -98,9 +132,14 @@ impl fmt::Display for Kind {
             Self::Patch => "single patch",
             Self::Split => "split",
             Self::Master => "master parameters",
+            Self::Request => "request data",
             Self::Edit => "remote edit",
+            Self::GroupMode => "group mode",
+            Self::SetBank => "set bank",
             Self::BusEdit => "matrix modulation edit",
+            Self::UnlockBank => "unlock bank",
             Self::EditBuffer => "patch to edit buffer",
+            Self::Store => "store edit buffer",
         })
     }
 }
@@ -149,6 +188,8 @@ impl AsRef<[u8]> for Master {
 }
 
 /// A message with its record.
+///
+/// A number in one that was read is allowed. One that is put in is tested when the message is written.
 #[derive(Clone, Copy, Debug, PartialEq, Eq, Hash)]
 #[non_exhaustive]
 pub enum Message {
@@ -168,12 +209,34 @@ pub enum Message {
     },
     /// The master parameters (03H).
     Master(Master),
+    /// A request for data (04H).
+    Request(Request),
     /// A remote edit (06H).
     Edit(Edit),
+    /// Group mode (07H), which numbers a unit. Each of the two has its range by itself.
+    GroupMode {
+        /// How many units the group has, 2 to 6.
+        total: u8,
+        /// The number that the unit gets, 0 to 5.
+        id: u8,
+    },
+    /// Set bank (0AH), which also locks the bank, 0 to 9.
+    SetBank(u8),
     /// A matrix modulation edit (0BH).
     BusEdit(BusEdit),
+    /// Unlock bank (0CH).
+    UnlockBank,
     /// A patch to the edit buffer (0DH).
     EditBuffer(Patch),
+    /// Store edit buffer (0EH).
+    Store {
+        /// The patch's number, 0 to 99.
+        number: u8,
+        /// The bank, 0 to 9.
+        bank: u8,
+        /// Which units it is for.
+        to: Target,
+    },
 }
 
 impl Message {
@@ -208,9 +271,14 @@ impl Message {
             Self::Patch { .. } => Kind::Patch,
             Self::Split { .. } => Kind::Split,
             Self::Master(_) => Kind::Master,
+            Self::Request(_) => Kind::Request,
             Self::Edit(_) => Kind::Edit,
+            Self::GroupMode { .. } => Kind::GroupMode,
+            Self::SetBank(_) => Kind::SetBank,
             Self::BusEdit(_) => Kind::BusEdit,
+            Self::UnlockBank => Kind::UnlockBank,
             Self::EditBuffer(_) => Kind::EditBuffer,
+            Self::Store { .. } => Kind::Store,
         }
     }
 
@@ -236,25 +304,33 @@ impl Message {
     ///
     /// # Errors
     ///
-    /// [`Error::NotAllowed`] for a patch number above 99 and a split number above 49,
-    /// [`Error::NoRoom`] for an output that is too short. The output is then kept.
+    /// [`Error::NotAllowed`] for a number outside its range, [`Error::NoRoom`] for an output that is too
+    /// short. The output is then kept.
     pub fn write_to_slice(&self, out: &mut [u8]) -> Result<usize, Error> {
         let given = out.len();
         let written = match self {
             Self::Patch { number, patch } => ffi::write_patch(*number, patch.as_bytes(), out),
             Self::Split { number, split } => ffi::write_split(*number, split.as_bytes(), out),
             Self::Master(master) => ffi::write_master(master.as_bytes(), out),
+            Self::Request(request) => {
+                let [kind, number] = request.bytes();
+                ffi::write_request_data(kind, number, out)
+            }
             Self::Edit(edit) => {
                 let [parameter, value] = edit.bytes();
                 ffi::write_edit(parameter, value, out)
             }
+            Self::GroupMode { total, id } => ffi::write_group_mode(*total, *id, out),
+            Self::SetBank(bank) => ffi::write_set_bank(*bank, out),
             Self::BusEdit(edit) => ffi::write_bus_edit(edit.bytes(), out),
+            Self::UnlockBank => ffi::write_unlock_bank(out),
             Self::EditBuffer(patch) => ffi::write_edit_buffer(patch.as_bytes(), out),
-        };
-        Error::check(written, |bare| match (bare, self) {
-            (Bare::Number, Self::Patch { number, .. } | Self::Split { number, .. }) => {
-                Error::NotAllowed(self.kind().not_allowed(*number))
+            Self::Store { number, bank, to } => {
+                ffi::write_store_edit_buffer(*number, *bank, to.id()?, out)
             }
+        };
+        Error::check(written, |bare| match bare {
+            Bare::Number => self.kind().not_allowed(self.numbers()),
             _ => Error::NoRoom {
                 needed: self.kind().length(),
                 given,
@@ -262,12 +338,28 @@ impl Message {
         })
     }
 
+    /// The numbers behind the opcode that may be refused in writing; zeros behind them.
+    fn numbers(&self) -> [u8; 3] {
+        match *self {
+            Self::Patch { number, .. } | Self::Split { number, .. } => [number, 0, 0],
+            Self::Request(request) => {
+                let [kind, number] = request.bytes();
+                [kind, number, 0]
+            }
+            Self::GroupMode { total, id } => [total, id, 0],
+            Self::SetBank(bank) => [bank, 0, 0],
+            // Its target was tested before it.
+            Self::Store { number, bank, .. } => [number, bank, 0],
+            _ => [0; 3],
+        }
+    }
+
     /// Writes the message to a file or anything else that takes bytes, and gives its length.
     ///
     /// # Errors
     ///
-    /// The writer's own, and [`Error::NotAllowed`] inside an [`io::Error`] for a patch number above 99
-    /// and a split number above 49, for which nothing is written.
+    /// The writer's own, and [`Error::NotAllowed`] inside an [`io::Error`] for a number outside its
+    /// range, for which nothing is written.
     pub fn write_to<W: io::Write>(&self, mut writer: W) -> io::Result<usize> {
         let mut bytes = [0; Self::LONGEST];
         let length = self.write_to_slice(&mut bytes)?;
@@ -279,7 +371,7 @@ impl Message {
     ///
     /// # Errors
     ///
-    /// [`Error::NotAllowed`] for a patch number above 99 and a split number above 49.
+    /// [`Error::NotAllowed`] for a number outside its range.
     ///
     /// ```
     /// use matrix1000::{Error, Message, Patch};
@@ -329,7 +421,7 @@ impl Message {
 ///
 /// # Errors
 ///
-/// [`Error::NotAllowed`] for a patch number above 99 and a split number above 49.
+/// [`Error::NotAllowed`] for a number outside its range.
 pub fn to_vec<M: Into<Message>>(messages: impl IntoIterator<Item = M>) -> Result<Vec<u8>, Error> {
     let mut bytes = Vec::new();
     for message in messages {
@@ -346,8 +438,8 @@ pub fn to_vec<M: Into<Message>>(messages: impl IntoIterator<Item = M>) -> Result
 ///
 /// # Errors
 ///
-/// The writer's own, and [`Error::NotAllowed`] inside an [`io::Error`] for a patch number above 99 and
-/// a split number above 49. Messages before it are written.
+/// The writer's own, and [`Error::NotAllowed`] inside an [`io::Error`] for a number outside its range.
+/// Messages before it are written.
 ///
 /// ```no_run
 /// use std::fs::File;
@@ -410,6 +502,12 @@ numbered!(Split split "A split with its number.");
 impl From<Master> for Message {
     fn from(master: Master) -> Self {
         Self::Master(master)
+    }
+}
+
+impl From<Request> for Message {
+    fn from(request: Request) -> Self {
+        Self::Request(request)
     }
 }
 

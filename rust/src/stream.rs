@@ -1,11 +1,12 @@
 //! Finding messages in a stream.
 
+use std::array;
 use std::iter::FusedIterator;
 use std::ops::Range;
 
 use crate::error::Bare;
 use crate::ffi;
-use crate::{BusEdit, Edit, Error, Kind, Length, Master, Message, Patch, Split};
+use crate::{BusEdit, Edit, Error, Kind, Length, Master, Message, Patch, Request, Split, Target};
 
 /// What is said of one message of a stream without reading its record.
 #[derive(Clone, Copy, Debug, PartialEq, Eq)]
@@ -46,7 +47,7 @@ impl Report {
     }
 
     /// A report on an input that is there whole.
-    fn within(input: &[u8], report: ffi::Report) -> Option<Self> {
+    pub(crate) fn within(input: &[u8], report: ffi::Report) -> Option<Self> {
         let message = &input[report.start..report.end];
         Self::new(report, message.iter().copied())
     }
@@ -67,19 +68,21 @@ fn accepted_kind(opcode: usize) -> Kind {
     }
 }
 
-/// What the refusal of a message speaks of: its length without real time, the byte behind its opcode,
+/// What the refusal of a message speaks of: its length without real time, the bytes behind its opcode,
 /// or a field of what it has.
 fn refusal(message: impl IntoIterator<Item = u8>, found: usize, bare: Bare) -> Error {
     let mut without_real_time = message.into_iter().filter(|byte| *byte < 0xF8);
     // It was not refused for its opcode, which is its fourth byte.
     let opcode = without_real_time.nth(3).unwrap_or_default();
     let kind = accepted_kind(opcode.into());
-    let behind = without_real_time.next().unwrap_or_default();
+    let behind = array::from_fn(|_| without_real_time.next().unwrap_or_default());
     match bare {
         Bare::Length => Error::WrongLength(Length::Message { kind, found }),
-        Bare::Number => Error::NotAllowed(kind.not_allowed(behind)),
+        Bare::Number => kind.not_allowed(behind),
         Bare::Field { place, value } => {
-            let format = kind.format().expect("no field of a master is tested");
+            let format = kind
+                .format()
+                .expect("no other kind has fields that are tested");
             format.out_of_range(place, value)
         }
         Bare::Room => unreachable!("the buffer takes every record"),
@@ -179,10 +182,11 @@ impl Iterator for Messages<'_> {
 // A search that found nothing ends at the input's length and finds nothing again.
 impl FusedIterator for Messages<'_> {}
 
-/// The record of an accepted message. All of it was tested in reading; edits are tested again.
+/// The record of an accepted message. All of it was tested in reading; what has a type of its own and
+/// is no dump is tested again.
 fn record(kind: Kind, bytes: [u8; 4], packed: &[u8; Master::LENGTH]) -> Result<Message, Error> {
     let patch = || Patch::tested(first(packed));
-    let [number, value, ..] = bytes;
+    let [number, second, third, _] = bytes;
     Ok(match kind {
         Kind::Patch => Message::Patch {
             number,
@@ -193,9 +197,21 @@ fn record(kind: Kind, bytes: [u8; 4], packed: &[u8; Master::LENGTH]) -> Result<M
             split: Split::tested(first(packed)),
         },
         Kind::Master => Message::Master(Master::from(*packed)),
-        Kind::Edit => Message::Edit(Edit::from_bytes(number, value)?),
+        Kind::Request => Message::Request(Request::try_from([number, second])?),
+        Kind::Edit => Message::Edit(Edit::from_bytes(number, second)?),
+        Kind::GroupMode => Message::GroupMode {
+            total: number,
+            id: second,
+        },
+        Kind::SetBank => Message::SetBank(number),
         Kind::BusEdit => Message::BusEdit(BusEdit::from_bytes(bytes)?),
+        Kind::UnlockBank => Message::UnlockBank,
         Kind::EditBuffer => Message::EditBuffer(patch()),
+        Kind::Store => Message::Store {
+            number,
+            bank: second,
+            to: Target::try_from(third)?,
+        },
     })
 }
 

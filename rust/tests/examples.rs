@@ -5,7 +5,7 @@ use std::io::{self, Write};
 
 use matrix1000::{
     messages, report_at, reports, to_vec, to_writer, Bank, Bus, BusEdit, Edit, Error, Kind, Length,
-    Master, Message, NotAllowed, Parameter, Patch, Split,
+    Master, Message, NotAllowed, Parameter, Patch, Request, Split, Target,
 };
 
 const fn wrong_length(length: Length) -> Error {
@@ -267,9 +267,18 @@ fn every_kind_comes_back_from_its_bytes() {
         Message::Master(Master::from(std::array::from_fn(|index| {
             index.to_le_bytes()[0]
         }))),
+        Message::Request(Request::Patch(42)),
         Message::Edit(Edit::new(Parameter::DCO_2_DETUNE, -32).unwrap()),
+        Message::GroupMode { total: 6, id: 5 },
+        Message::SetBank(9),
         Message::BusEdit(BusEdit::new(9, bus).unwrap()),
+        Message::UnlockBank,
         Message::EditBuffer(patch),
+        Message::Store {
+            number: 42,
+            bank: 9,
+            to: Target::Any,
+        },
     ];
     let mut written = Vec::new();
     let length = to_writer(&mut written, all.iter()).unwrap();

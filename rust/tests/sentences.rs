@@ -4,7 +4,7 @@ use std::fmt::Display;
 
 use matrix1000::{
     messages, reports, Bank, Bus, BusEdit, Edit, Error, Kind, Length, Master, Message, NotAllowed,
-    Parameter, Patch, Split, Zone,
+    Parameter, Patch, Request, Split, Target, Zone,
 };
 
 fn says<T>(result: Result<T, impl Display>, sentence: &str) {
@@ -110,6 +110,52 @@ fn of_splits_that_are_handed_in() {
     says(
         split.set_balance(32),
         "32 is out of range for Left/Right Balance, byte 16 of the split: -32 to 31",
+    );
+}
+
+#[test]
+fn of_operations_that_are_handed_in() {
+    let store = |number, bank, to| Message::Store { number, bank, to };
+    let group = |total, id| Message::GroupMode { total, id };
+    let refusals = [
+        (
+            Message::from(Request::Patch(100)),
+            "patch number 100 is not allowed: 0 to 99",
+        ),
+        (group(1, 0), "group total 1 is not allowed: 2 to 6"),
+        (group(7, 6), "group total 7 is not allowed: 2 to 6"),
+        (group(6, 6), "unit number 6 is not allowed: 0 to 5"),
+        (Message::SetBank(10), "bank 10 is not allowed: 0 to 9"),
+        (
+            store(100, 10, Target::Any),
+            "patch number 100 is not allowed: 0 to 99",
+        ),
+        (store(99, 10, Target::Any), "bank 10 is not allowed: 0 to 9"),
+        (
+            store(99, 9, Target::Unit(6)),
+            "unit number 6 is not allowed: 0 to 5",
+        ),
+        // Sent, it would go to any unit.
+        (
+            store(99, 9, Target::Unit(127)),
+            "unit number 127 is not allowed: 0 to 5",
+        ),
+    ];
+    for (message, sentence) in refusals {
+        says(message.to_vec(), sentence);
+        says(message.write_to_slice(&mut []), sentence);
+    }
+    says(
+        Message::UnlockBank.write_to_slice(&mut [0; 4]),
+        "the output has 4 bytes, and 5 are needed",
+    );
+    says(
+        Request::try_from([2, 0]),
+        "type 2 of a request is not allowed: 0, 1, 3 or 4",
+    );
+    says(
+        Target::try_from(6),
+        "ID 6 of a store message is not allowed: 0 to 5, or 127 for any unit",
     );
 }
 
@@ -312,10 +358,83 @@ fn of_messages() {
             "a remote edit message has 7 bytes, not 5",
         ),
     ];
+    refused_in_reading(&refusals);
+}
+
+#[test]
+fn of_operations() {
+    let refusals = [
+        (
+            message(&[0x04, 5, 1]),
+            Error::NotAllowed(NotAllowed::RequestType(5)),
+            "type 5 of a request is not allowed: 0, 1, 3 or 4",
+        ),
+        (
+            message(&[0x04, 1, 100]),
+            Error::NotAllowed(NotAllowed::PatchNumber(100)),
+            "patch number 100 is not allowed: 0 to 99",
+        ),
+        (
+            message(&[0x04, 3, 1]),
+            Error::NotAllowed(NotAllowed::RequestNumber(1)),
+            "number 1 of a request that asks for no single patch is not allowed: 0",
+        ),
+        (
+            message(&[0x07, 7, 6]),
+            Error::NotAllowed(NotAllowed::Total(7)),
+            "group total 7 is not allowed: 2 to 6",
+        ),
+        (
+            message(&[0x07, 6, 6]),
+            Error::NotAllowed(NotAllowed::UnitNumber(6)),
+            "unit number 6 is not allowed: 0 to 5",
+        ),
+        (
+            message(&[0x0A, 10]),
+            Error::NotAllowed(NotAllowed::Bank(10)),
+            "bank 10 is not allowed: 0 to 9",
+        ),
+        (
+            message(&[0x0E, 100, 10, 6]),
+            Error::NotAllowed(NotAllowed::PatchNumber(100)),
+            "patch number 100 is not allowed: 0 to 99",
+        ),
+        (
+            message(&[0x0E, 99, 10, 6]),
+            Error::NotAllowed(NotAllowed::Bank(10)),
+            "bank 10 is not allowed: 0 to 9",
+        ),
+        (
+            message(&[0x0E, 99, 9, 6]),
+            Error::NotAllowed(NotAllowed::Target(6)),
+            "ID 6 of a store message is not allowed: 0 to 5, or 127 for any unit",
+        ),
+        (
+            message(&[0x0C, 0]),
+            Error::WrongLength(Length::Message {
+                kind: Kind::UnlockBank,
+                found: 6,
+            }),
+            "an unlock bank message has 5 bytes, not 6",
+        ),
+        (
+            message(&[0x0E]),
+            Error::WrongLength(Length::Message {
+                kind: Kind::Store,
+                found: 5,
+            }),
+            "a store edit buffer message has 8 bytes, not 5",
+        ),
+    ];
+    refused_in_reading(&refusals);
+}
+
+/// Each of these messages is refused by an error that says this.
+fn refused_in_reading(refusals: &[(Vec<u8>, Error, &str)]) {
     for (input, error, sentence) in refusals {
-        assert_eq!(Message::read(&input), Err(error));
-        assert_eq!(reports(&input).next().unwrap().kind, Err(error));
-        assert_eq!(messages(&input).count(), 1);
-        assert_eq!(error.to_string(), sentence);
+        assert_eq!(Message::read(input), Err(*error));
+        assert_eq!(reports(input).next().unwrap().kind, Err(*error));
+        assert_eq!(messages(input).count(), 1);
+        assert_eq!(error.to_string(), *sentence);
     }
 }

@@ -1,6 +1,6 @@
 -- Laws of lists, of what holds of every element, and of a lent buffer that is filled from its start.
 -- Each goes by the list's elements, or by the laws of `take`, `drop` and `++`.
-use mathlib.Core.Path.{_≡_, ap, _∙_}
+use mathlib.Core.Path.{_≡_, refl, ap, _∙_}
 use mathlib.Core.List.{List, [], _∷_, _++_, append-assoc, append-nil}
 use Prim.Native.Nat.{ℕ, zero, suc, _+_, _-_, _<_, _≤_}
 use native.Mathlib.Nat.{le-of-suc-le-suc}
@@ -9,7 +9,7 @@ use native.Mathlib.Numerals.{add-one}
 use lib.ListN.{length, getD, take, drop, set, length-append, length-drop, drop-of-length-le}
 use lib.Seq.{drop-cons, set-at, take-all, take-at, drop-at, drop-drop}
 use borrow.Rule.Slice.PartMut.{putMid}
-use Rattle.answers.specs.Lists.{All}
+use Rattle.answers.specs.Lists.{All, bytesFrom}
 
 -- The part lent by `&s[a..]` is what is left of s from a on.
 pub to-end : (a : ℕ) (s : List ℕ) → take (length s - a) (drop a s) ≡ drop a s
@@ -84,3 +84,14 @@ pub all-set : (P : ℕ → Type 0) (l : List ℕ) (j x : ℕ) → All P l → P 
 all-set P [] j x a h = tt
 all-set P (y ∷ l) zero x a h = (h, a .1)
 all-set P (y ∷ l) (suc j) x a h = (a .0, all-set P l j x (a .1) h)
+
+-- A list of so many bytes, spelled out.
+from-next : (n i x : ℕ) (b : List ℕ) → bytesFrom n (suc i) (x ∷ b) ≡ bytesFrom n i b
+from-next zero i x b = refl
+from-next (suc n) i x b = rw (from-next n (suc i) x b)
+
+pub spelled : (b : List ℕ) (n : ℕ) → length b ≡ n → b ≡ bytesFrom n 0 b
+spelled [] zero l = refl
+spelled [] (suc n) l = absurd (omega arith)
+spelled (x ∷ b) zero l = absurd (omega arith)
+spelled (x ∷ b) (suc n) l = rw (from-next n 0 x b) (ap (_∷_ x) (spelled b n (omega arith)))

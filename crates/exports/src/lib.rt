@@ -1,6 +1,7 @@
 // The library for C and Rust to link: walk, read, reports, the reader of the cable, test, lookups, ranges and values of parameters, names,
-// both edits, all writers, the bank, and the planner with its checker, each the routine itself with its own contract. A slice passes as a
-// pointer and a length; a struct is returned by value, laid out as C lays it out. A reader's record is held by the caller and lent.
+// both edits, all writers, the bank, a unit's step, and the planner with its checker, each the routine itself with its own contract. A
+// slice passes as a pointer and a length; a struct goes by value, laid out as C lays it out. A reader's record is held by the caller and
+// lent.
 use answers::Outcome;
 use cable::Cable;
 use cable::Fed;
@@ -13,6 +14,8 @@ use patch::Held;
 use reading::listing::Listed;
 use reading::recording::Reading;
 use reading::walking::Report;
+use units::Step;
+use units::Unit;
 use writing::BankOutcome;
 ghost use mathlib.Core.Path.{_≡_};
 ghost use mathlib.Core.List.{[], _∷_};
@@ -20,6 +23,7 @@ ghost use Rattle.answers.specs.Effect.{Gives, tested};
 ghost use Rattle.edits.specs.Edits.{applying, applyingBus};
 ghost use Rattle.messages.specs.declared.kinds.Kind.the-variants.{Dump as ofDump, Short as ofShort};
 ghost use Rattle.messages.specs.Kinds.{singlePatch, splitPatch, masterParameters, editBuffer, remoteEdit, busEdit};
+ghost use Rattle.messages.specs.Kinds.{requestData, groupMode, setBank, unlockBank, storeEditBuffer};
 ghost use Rattle.fields.specs.code.Columns.{orNone};
 ghost use Rattle.fields.specs.Fields.{placeOf, parameterOf};
 ghost use Rattle.fields.specs.Parameters.{ranging};
@@ -31,6 +35,8 @@ ghost use Rattle.edit_lists.specs.Check.{checking};
 ghost use Rattle.cable.specs.Cable.{freshRecord, feeding, ending, Leaves};
 ghost use Rattle.reading.specs.code.Rooms.{Makes};
 ghost use Rattle.reading.specs.code.Told.{walked, reads};
+ghost use Rattle.units.specs.Units.{meantFor};
+ghost use Rattle.units.specs.code.Steps.{steps};
 ghost use Rattle.writing.specs.Writing.{writing, writingBank};
 
 // A byte that no place and no parameter is.
@@ -253,6 +259,67 @@ pub extern "C" fn matrix_write_bus_edit(
     ensures { λ r. ⌜ Gives (writing (ofShort busEdit) (bus ∷ source ∷ amount ∷ destination ∷ []) [] (now (out .entry))) r (now (out .exit)) ⌝ }
 {
     writing::write_bus_edit(bus, source, amount, destination, out)
+}
+
+// Writes a request for data.
+#[no_mangle]
+pub extern "C" fn matrix_write_request_data(kind: u8, number: u8, out: &mut [u8]) -> Outcome
+    ensures { λ r. ⌜ Gives (writing (ofShort requestData) (kind ∷ number ∷ []) [] (now (out .entry))) r (now (out .exit)) ⌝ }
+{
+    writing::write_request_data(kind, number, out)
+}
+
+// Writes group mode.
+#[no_mangle]
+pub extern "C" fn matrix_write_group_mode(total: u8, id: u8, out: &mut [u8]) -> Outcome
+    ensures { λ r. ⌜ Gives (writing (ofShort groupMode) (total ∷ id ∷ []) [] (now (out .entry))) r (now (out .exit)) ⌝ }
+{
+    writing::write_group_mode(total, id, out)
+}
+
+// Writes set bank.
+#[no_mangle]
+pub extern "C" fn matrix_write_set_bank(bank: u8, out: &mut [u8]) -> Outcome
+    ensures { λ r. ⌜ Gives (writing (ofShort setBank) (bank ∷ []) [] (now (out .entry))) r (now (out .exit)) ⌝ }
+{
+    writing::write_set_bank(bank, out)
+}
+
+// Writes unlock bank.
+#[no_mangle]
+pub extern "C" fn matrix_write_unlock_bank(out: &mut [u8]) -> Outcome
+    ensures { λ r. ⌜ Gives (writing (ofShort unlockBank) [] [] (now (out .entry))) r (now (out .exit)) ⌝ }
+{
+    writing::write_unlock_bank(out)
+}
+
+// Writes store edit buffer.
+#[no_mangle]
+pub extern "C" fn matrix_write_store_edit_buffer(
+    number: u8,
+    bank: u8,
+    id: u8,
+    out: &mut [u8],
+) -> Outcome
+    ensures { λ r. ⌜ Gives (writing (ofShort storeEditBuffer) (number ∷ bank ∷ id ∷ []) [] (now (out .entry))) r (now (out .exit)) ⌝ }
+{
+    writing::write_store_edit_buffer(number, bank, id, out)
+}
+
+// What a message does to a unit.
+#[no_mangle]
+pub extern "C" fn matrix_unit_step(unit: Unit, s: &[u8], place: usize) -> Step
+    ensures { λ r. ⌜ r ≡ steps unit (now (s .entry)) place ⌝ }
+{
+    units::follow(unit, s, place)
+}
+
+// Whether a store message with that ID is meant for a unit.
+#[no_mangle]
+pub extern "C" fn matrix_unit_meant(unit: Unit, id: u8) -> bool
+    ensures { λ r. ⌜ r ≡ meantFor unit id ⌝ }
+{
+    units::meant_for(unit, id)
 }
 
 // Writes a bank.

@@ -32,7 +32,8 @@ ghost use Rattle.judging.specs.code.Content.{contentBy};
 ghost use Rattle.judging.specs.code.Judged.{kindVerdict, judged, judgedAs, refusedBy, recordedAs};
 ghost use Rattle.judging.specs.code.Heard.{heardFrom, recordedFrom};
 
-// An outcome, and the bytes that come with it: the number of a patch or a split, or an edit's two or four; zero where there are none.
+// An outcome, and the bytes that come with it: the number of a patch or a split, or those of an edit or an operation; zero where there are
+// none.
 pub struct Judged {
     pub outcome: Outcome,
     pub bytes: [u8; 4],

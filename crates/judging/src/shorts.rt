@@ -5,12 +5,14 @@ use crate::content::byte_at;
 use crate::refused;
 use crate::refused_by;
 use answers::DONE;
+use answers::NOT_ALLOWED;
 use answers::Outcome;
 use answers::WRONG_LENGTH;
 use fields::Parameter;
 use messages::kinds::Operands;
 use messages::kinds::Short;
 use messages::kinds::count_of;
+use operations::Operation;
 ghost use mathlib.Core.Path.{_≡_};
 ghost use lib.Dec.{T};
 ghost use lib.ListN.{length, drop, getD};
@@ -19,11 +21,22 @@ ghost use Rattle.answers.specs.Table.{four};
 ghost use Rattle.streams.specs.Bytes.{framed};
 ghost use Rattle.messages.specs.declared.kinds.Kind.the-variants.{Short as ofShort};
 ghost use Rattle.messages.specs.code.Sizes.{sized};
-ghost use Rattle.messages.specs.Judge.{lentOperandRows};
+ghost use Rattle.messages.specs.declared.kinds.Operands.the-variants.{Operation as anOperation};
+ghost use Rattle.messages.specs.Judge.{operandRows, lentOperandRows};
 ghost use Rattle.judging.specs.code.Content.{contentBy};
 ghost use Rattle.judging.specs.code.Judged.{kindVerdict, judged};
 
-// The tests of a short message's bytes: 7 for another count of them, then those that applying an edit makes too.
+// The test of an operation's bytes: 8 where it may not have them.
+fn test_operation(operation: Operation, bytes: &[u8]) -> Outcome
+    ensures { λ r. ⌜ r ≡ tested (operandRows (anOperation operation) (now (bytes .entry))) ⌝ }
+{
+    if operations::allowed(operation, bytes) {
+        return answers::done(0);
+    }
+    answers::refused(NOT_ALLOWED, 0)
+}
+
+// The tests of a short message's bytes: 7 for another count of them, then those that applying an edit makes too, or an operation's.
 pub fn test_operands(operands: Operands, bytes: &[u8]) -> Outcome
     ensures { λ r. ⌜ r ≡ tested (lentOperandRows operands (now (bytes .entry))) ⌝ }
 {
@@ -33,6 +46,7 @@ pub fn test_operands(operands: Operands, bytes: &[u8]) -> Outcome
     match operands {
         Operands::Edit => edits::test_edit(Parameter(bytes[0]), bytes[1]),
         Operands::BusEdit => edits::test_bus_edit(bytes[0], bytes[1], bytes[2], bytes[3]),
+        Operands::Operation(operation) => test_operation(operation, bytes),
     }
 }
 

@@ -74,4 +74,4 @@ filed-sized k f = is-sized k (subst (λ (k : Kind). T (sized k)) f (kind-sized (
 -- Each kind of the list is found by its own opcode: no two have the same.
 pub all-filed : All Filed kinds
 unfolding kindOf
-all-filed = (refl, (refl, (refl, (refl, (refl, (refl, tt))))))
+all-filed = (refl, (refl, (refl, (refl, (refl, (refl, (refl, (refl, (refl, (refl, (refl, tt)))))))))))

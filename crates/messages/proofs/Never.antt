@@ -1,5 +1,6 @@
 -- The rows of a dump around those of its packed bytes are numbered 4 to 10, and a test that is not made says nothing.
 use mathlib.Core.Path.{_≡_, refl}
+use mathlib.Core.Bool.{false}
 use mathlib.Core.List.{List, []}
 use mathlib.Core.Logic.{inl, inr}
 use mathlib.Core.Option.{none}
@@ -7,15 +8,16 @@ use Prim.Native.Nat.{ℕ, _<_}
 use native.Mathlib.Omega.{arith}
 use Rattle.answers.specs.Lists.{All}
 use Rattle.answers.specs.Table.{answerOf}
+use Rattle.answers.proofs.Lists.{all-weaken}
 use Rattle.answers.proofs.Rows.{Without, never-answered}
 use Rattle.nibbles.specs.Nibbles.{pack}
 use Rattle.patch.specs.Patch.{halfFrom}
-use Rattle.messages.specs.Kinds.{Dump, ofDump, splitPatch, masterParameters, shapeOf, sizeOf, kindOf}
+use Rattle.messages.specs.Kinds.{Dump, Kind, ofDump, splitPatch, masterParameters, shapeOf, sizeOf, kindOf, isUnknown}
 use Rattle.messages.specs.Judge.{byteAt, dataOf, dataRows, packedRows, kindRows, messageRows, recordOf, judge}
 use Rattle.messages.specs.Layout.{givenRows}
 use Rattle.messages.specs.code.Sizes.{lentRows}
 use Rattle.messages.specs.promises.Never.{NeverFor, NeverGiven}
-use Rattle.messages.proofs.Numbers.{IsDone, made, record-done}
+use Rattle.messages.proofs.Numbers.{kind-numbers, IsDone, made, record-done}
 
 module _ (n : ℕ) (above : 10 < n) (k : Dump) (own : (p : List ℕ) → All (Without n) (packedRows (k .packed) p)) where
   kind-without : (m : List ℕ) → All (Without n) (kindRows (ofDump k) m)
@@ -57,25 +59,19 @@ never-given = record {
   split-12 = no-buses splitPatch refl;
 }
 
--- Nor is 6 given for any dump: its opcode is known, and all other rows have other numbers.
-pub known-6 : (m : List ℕ) (k : Dump) → kindOf (byteAt m 3) ≡ ofDump k → answerOf (judge m) ≡ 6 → ⊥
-unfolding judge dataRows
-known-6 m k e z = go (record-done (kindOf (byteAt m 3)) m)
+-- Nor is 6 given where the opcode is known: all other rows have other numbers.
+pub known-6 : (m : List ℕ) → isUnknown (kindOf (byteAt m 3)) ≡ false → answerOf (judge m) ≡ 6 → ⊥
+unfolding judge
+known-6 m e z = go (record-done k m)
   where
-    rows : All (Without 6) (messageRows m)
-    rows = (
-      inr (λ z. omega arith),
-      (
-        inr (λ z. omega arith),
-        (
-          inl (rw e),
-          (
-            inr (λ z. omega arith),
-            rw e (inr (λ z. omega arith), (inr (λ z. omega arith), (inr (λ z. omega arith), (inr (λ z. omega arith), (inr (λ z. omega arith), tt))))),
-          ),
-        ),
-      ),
-    )
+    k : Kind
+    k = kindOf (byteAt m 3)
 
-    go : IsDone (recordOf (kindOf (byteAt m 3)) m) → ⊥
+    own : All (Without 6) (kindRows k m)
+    own = all-weaken _ _ (λ r h. inr (λ z. omega arith)) (kindRows k m) (kind-numbers k m)
+
+    rows : All (Without 6) (messageRows m)
+    rows = (inr (λ z. omega arith), (inr (λ z. omega arith), (inl (rw e), (inr (λ z. omega arith), own))))
+
+    go : IsDone (recordOf k m) → ⊥
     go (made o b p q) = never-answered 6 (λ f. omega arith) (messageRows m) rows o b p (rw q at z)

@@ -3,7 +3,7 @@
 use mathlib.Core.Path.{_≡_, refl}
 use mathlib.Core.Bool.{false}
 use mathlib.Core.List.{List}
-use Prim.Native.Nat.{ℕ}
+use Prim.Native.Nat.{ℕ, _≤_}
 use native.Mathlib.Omega.{arith}
 use lib.ListN.{length}
 use Rattle.answers.specs.Lists.{All}
@@ -14,53 +14,63 @@ use Rattle.answers.specs.promises.Decides.{Silent}
 use Rattle.nibbles.specs.Nibbles.{pack}
 use Rattle.edits.specs.Edits.{editRows, busRows}
 use Rattle.answers.specs.declared.Outcome.{Outcome}
-use Rattle.messages.specs.Kinds.{Packed, Dump, Operands, anEdit, aBusEdit, Kind, ofDump, ofShort, unknown}
+use Rattle.messages.specs.Kinds.{Packed, Dump, Operands, anEdit, aBusEdit, anOperation, Kind, ofDump, ofShort, unknown}
 use Rattle.messages.specs.Kinds.{countOf, kindOf, sizeOf, lengthOf, isUnknown}
 use Rattle.messages.specs.Judge.{byteAt, dataOf, dataRows, packedRows, operandRows, bytesFrom, kindRows, messageRows, recordOf, judge}
 use Rattle.messages.specs.promises.Numbers.{InTable, RefusedNumbers}
 use Rattle.messages.specs.Layout.{behindFor, dumpGiven, givenRows}
 
--- The rows of a kind have listed numbers, whatever it tests.
-abbrev RowsInTable : List Row → Type 0
-RowsInTable rows = All (λ r. InTable (numberOf r)) rows
+-- The rows of a kind have numbers 8 to 12, whatever it tests.
+abbrev pub OwnRows : List Row → Type 0
+OwnRows rows = All (λ r. (8 ≤ numberOf r) × (numberOf r ≤ 12)) rows
 
-packed-numbers : (q : Packed) (p : List ℕ) → RowsInTable (packedRows q p)
+packed-numbers : (q : Packed) (p : List ℕ) → OwnRows (packedRows q p)
 packed-numbers q p = omega arith
 
-operand-numbers : (o : Operands) (b : List ℕ) → RowsInTable (operandRows o b)
+operand-numbers : (o : Operands) (b : List ℕ) → OwnRows (operandRows o b)
 unfolding editRows busRows
 operand-numbers anEdit b = omega arith
 operand-numbers aBusEdit b = omega arith
+operand-numbers (anOperation o) b = omega arith
 
-kind-numbers : (k : Kind) (m : List ℕ) → RowsInTable (kindRows k m)
+pub kind-numbers : (k : Kind) (m : List ℕ) → OwnRows (kindRows k m)
 unfolding dataRows
 kind-numbers (ofDump k) m =
     (omega arith, (omega arith, (omega arith, packed-numbers (k .packed) (pack (dataOf (sizeOf (k .packed)) m)))))
 kind-numbers (ofShort k) m = operand-numbers (k .operands) (bytesFrom (countOf (k .operands)) 4 m)
 kind-numbers unknown m = tt
 
--- So have those of what a writer is given.
+-- They are listed numbers.
+abbrev RowsInTable : List Row → Type 0
+RowsInTable rows = All (λ r. InTable (numberOf r)) rows
+
+listed : (rows : List Row) → OwnRows rows → RowsInTable rows
+listed rows a = all-weaken _ _ (λ r h. omega arith) rows a
+
+-- So are those of what a writer is given.
 dump-given-numbers : (k : Dump) (n : ℕ) (p : List ℕ) → RowsInTable (dumpGiven k n p)
-dump-given-numbers k n p = (omega arith, (omega arith, packed-numbers (k .packed) p))
+dump-given-numbers k n p = (omega arith, (omega arith, listed (packedRows (k .packed) p) (packed-numbers (k .packed) p)))
 
 given-numbers : (k : Kind) (b p : List ℕ) → RowsInTable (givenRows k b p)
 given-numbers (ofDump k) b p = dump-given-numbers k (behindFor (k .behind) b) p
-given-numbers (ofShort k) b p = (omega arith, operand-numbers (k .operands) b)
+given-numbers (ofShort k) b p = (omega arith, listed (operandRows (k .operands) b) (operand-numbers (k .operands) b))
 given-numbers unknown b p = tt
 
--- So has every row of the table.
+-- So is that of every row of the table.
 pub row-numbers : (m : List ℕ) → RowsInTable (messageRows m)
-row-numbers m = (omega arith, (omega arith, (omega arith, (omega arith, kind-numbers (kindOf (byteAt m 3)) m))))
+row-numbers m =
+    let k = kindOf (byteAt m 3) in
+    (omega arith, (omega arith, (omega arith, (omega arith, listed (kindRows k m) (kind-numbers k m)))))
 
 -- Rows with listed numbers are refusals.
 refusals : (rows : List Row) → RowsInTable rows → Refusals rows
 refusals rows a = all-weaken _ _ (λ r h. omega arith) rows a
 
 pub packed-refusals : (q : Packed) (p : List ℕ) → Refusals (packedRows q p)
-packed-refusals q p = refusals (packedRows q p) (packed-numbers q p)
+packed-refusals q p = refusals (packedRows q p) (listed (packedRows q p) (packed-numbers q p))
 
 pub operand-refusals : (o : Operands) (b : List ℕ) → Refusals (operandRows o b)
-operand-refusals o b = refusals (operandRows o b) (operand-numbers o b)
+operand-refusals o b = refusals (operandRows o b) (listed (operandRows o b) (operand-numbers o b))
 
 pub dump-given-refusals : (k : Dump) (n : ℕ) (p : List ℕ) → Refusals (dumpGiven k n p)
 dump-given-refusals k n p = refusals (dumpGiven k n p) (dump-given-numbers k n p)

@@ -1,8 +1,8 @@
 -- The messages as our writers write them: what stands between F0H and F7H is data bytes, and a message that passes its writer's tests is
 -- accepted with its record. Numbers are below 100, nibbles below 16, the sum below 128; a parameter, a bus and its bytes are in range.
 use mathlib.Core.Path.{_≡_, refl, sym, ap, _∙_, subst}
-use mathlib.Core.Bool.{false}
-use mathlib.Core.List.{List, [], _∷_, _++_, append-nil}
+use mathlib.Core.Bool.{false, not}
+use mathlib.Core.List.{List, [], _∷_, _++_}
 use mathlib.Core.Option.{Option, none, some}
 use Prim.Native.Nat.{ℕ, suc, _+_, _*_, _<_}
 use native.Mathlib.Omega.{arith}
@@ -10,8 +10,8 @@ use lib.Dec.{eqb}
 use lib.ListN.{length, getD, length-append}
 use borrow.Author.Tests.{eq-eqb, eqb-true, not-false, ltb-false}
 use Rattle.answers.specs.Lists.{All}
-use Rattle.answers.specs.Table.{done}
-use Rattle.answers.proofs.Lists.{all-append, all-weaken}
+use Rattle.answers.specs.Table.{Verdict, done}
+use Rattle.answers.proofs.Lists.{all-append, all-weaken, spelled}
 use Rattle.answers.proofs.Rows.{first-passed, row-silent, row-equal, row-found-silent}
 use Rattle.answers.specs.promises.Decides.{Silent}
 use Rattle.streams.specs.Bytes.{framed}
@@ -23,14 +23,16 @@ use Rattle.fields.specs.Fields.{fields, placeOf}
 use Rattle.fields.proofs.Rules.{found-place, parameter-number}
 use Rattle.fields.proofs.Buses.{source-below, destination-below}
 use Rattle.edits.specs.Edits.{extended, editRows, busRows}
+use Rattle.operations.specs.Operations.{allowed}
+use Rattle.operations.proofs.Numbers.{allowed-seven}
 use Rattle.edits.proofs.Tests.{rows-at, rows-nowhere, value-small, bus-number, bus-amount, bus-bytes}
-use Rattle.messages.specs.Kinds.{Behind, numberTo, always, Operands, anEdit, aBusEdit, Short}
+use Rattle.messages.specs.Kinds.{Behind, numberTo, always, Operands, anEdit, aBusEdit, anOperation, Short}
 use Rattle.messages.specs.Kinds.{Kind, ofDump, ofShort, unknown, countOf, shapeOf, sizeOf, opcodeOf, Filed}
-use Rattle.messages.specs.Judge.{misnumbered, numberIn, operandRows, bytesFrom, judge}
+use Rattle.messages.specs.Judge.{misnumbered, numberIn, operandRows, judge}
 use Rattle.messages.specs.Layout.{messageOf, dump, behindFor, message, recordFor, givenRows}
 use Rattle.messages.specs.promises.Given.{Numbered, Given, AllBytes, BytesIn}
 use Rattle.messages.proofs.Filed.{every-kind, filed-sized}
-use Rattle.messages.proofs.Content.{bytes-at, framed-bytes}
+use Rattle.messages.proofs.Content.{framed-bytes}
 use Rattle.messages.proofs.DumpLaws.{dump-accepted}
 
 -- What stands between F0H and F7H of a dump.
@@ -51,10 +53,6 @@ short-accepted k f b l a =
     let right : length m ≡ k .length = omega (arith, length-append b (0xF7 ∷ []), filed-sized (ofShort k) f .0) in
     let same = framed-bytes (countOf (k .operands)) (0x10 ∷ 0x06 ∷ k .opcode ∷ b) (omega arith) in
     rw (f, eq-eqb (length m) (k .length) right, same) (first-passed (operandRows (k .operands) b) (done (k .opcode) b []) a)
-
--- A list of so many bytes, spelled out.
-spelled : (b : List ℕ) (n : ℕ) → length b ≡ n → b ≡ bytesFrom n 0 b
-spelled b n l = sym (rw (append-nil, l) at (bytes-at [] b []))
 
 edit-data : (n v : ℕ) → Silent (editRows n v) → All (λ b. b < 0x80) (n ∷ v ∷ [])
 edit-data n v a = go (placeOf n) refl
@@ -97,6 +95,7 @@ number-seven (always byte) h n e = omega (arith, eqb-true n byte (not-false (eqb
 operands-seven : (o : Operands) (b : List ℕ) → length b ≡ countOf o → Silent (operandRows o b) → All (λ x. x < 0x80) b
 operands-seven anEdit b l a = rw (spelled b 2 l) (edit-data (getD b 0 0) (getD b 1 0) a)
 operands-seven aBusEdit b l a = rw (spelled b 4 l) (bus-data (getD b 0 0) (getD b 1 0) (getD b 2 0) (getD b 3 0) a)
+operands-seven (anOperation o) b l a = allowed-seven o b (not-false (allowed o b) (row-silent 8 (not (allowed o b)) (a .0)))
 
 abbrev Small : Kind → Type 0
 Small (ofDump k) = (k .opcode < 0x80) × (greatestOf (k .behind) < 0x80)
@@ -162,3 +161,9 @@ sound (ofShort k) b p f g u a =
       accepted = rw g (short-accepted k f b l (a .1));
     }
 sound unknown b p f g u a = absurd g
+
+-- What holds of data bytes between F0H and F7H and what they come to holds of that message and its record.
+pub sound-holds : (k : Kind) (b p : List ℕ) (F : List ℕ → Verdict → Type 0) → ((c : List ℕ) → All (λ x. x < 0x80) c → F (framed c) (judge (framed c)))
+    → Sound k b p → F (message k b p) (recordFor k b p)
+sound-holds k b p F f s =
+    subst (λ (v : Verdict). F (message k b p) v) (s .accepted) (subst (λ (m : List ℕ). F m (judge m)) (sym (s .bytes)) (f (s .content) (s .seven)))

@@ -1,15 +1,17 @@
 -- Document 01's table for a complete message without its real-time bytes, less 14, which is withdrawn: what it comes to.
 use mathlib.Core.Bool.{Bool, not}
 use mathlib.Core.List.{List, [], _∷_, _++_}
-use Prim.Native.Nat.{ℕ, zero, suc, _+_, _*_}
+use Prim.Native.Nat.{ℕ, _+_, _*_}
 use lib.Dec.{eqb, ltb}
 use lib.ListN.{length, take, drop, getD}
+pub use Rattle.answers.specs.Lists.{bytesFrom}
 use Rattle.answers.specs.Table.{Row, row, rowAt, rowFound, Verdict, done, first}
 use Rattle.nibbles.specs.Nibbles.{pack, sum, firstWide}
 use Rattle.ranges.specs.Ranges.{outBy}
 use Rattle.patch.specs.Patch.{halfFrom}
 use Rattle.edits.specs.Edits.{editRows, busRows}
-use Rattle.messages.specs.Kinds.{maker, device, Behind, numberTo, always, Packed, Dump, Operands, anEdit, aBusEdit}
+use Rattle.operations.specs.Operations.{allowed}
+use Rattle.messages.specs.Kinds.{maker, device, Behind, numberTo, always, Packed, Dump, Operands, anEdit, aBusEdit, anOperation}
 use Rattle.messages.specs.Kinds.{Kind, ofDump, ofShort, unknown, kindOf, countOf, shapeOf, sizeOf, lengthOf, isUnknown}
 
 -- The byte at place i of a message, F0H at 0.
@@ -52,19 +54,15 @@ sentRows q d s = dataRows d s ++ packedRows q (pack d)
 abbrev pub dumpRows : Dump → ℕ → List ℕ → ℕ → List Row
 dumpRows k n d s = row 8 (misnumbered (k .behind) n) ∷ sentRows (k .packed) d s
 
--- The tests of a short message's bytes: an edit's own.
+-- The tests of a short message's bytes: an edit's own; 8 where an operation may not have them.
 abbrev pub operandRows : Operands → List ℕ → List Row
 operandRows anEdit b = editRows (getD b 0 0) (getD b 1 0)
 operandRows aBusEdit b = busRows (getD b 0 0) (getD b 1 0) (getD b 2 0) (getD b 3 0)
+operandRows (anOperation o) b = row 8 (not (allowed o b)) ∷ []
 
 -- The same of a short message's bytes as they are lent to a routine: another count of them is 7.
 abbrev pub lentOperandRows : Operands → List ℕ → List Row
 lentOperandRows o b = row 7 (not (eqb (length b) (countOf o))) ∷ operandRows o b
-
--- So many bytes of a message from place i on.
-abbrev pub bytesFrom : ℕ → ℕ → List ℕ → List ℕ
-bytesFrom zero i m = []
-bytesFrom (suc n) i m = byteAt m i ∷ bytesFrom n (suc i) m
 
 -- The tests of each kind behind its length.
 abbrev pub kindRows : Kind → List ℕ → List Row

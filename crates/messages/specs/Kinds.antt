@@ -9,13 +9,15 @@ use Rattle.ranges.specs.Ranges.{Table}
 use Rattle.fields.specs.Fields.{size, fields}
 use Rattle.patch.specs.Patch.{buses}
 use Rattle.splits.specs.Splits.{splitSize, splitFields}
+use Rattle.operations.specs.declared.Operation.the-variants.{Request as aRequest, Group as aGroup, Bank as aBank, Unlock as anUnlock, Store as aStore}
+use Rattle.operations.specs.Operations.{lastPatch, bytesOf}
 pub use Rattle.messages.specs.declared.kinds.Behind.{Behind}
 pub use Rattle.messages.specs.declared.kinds.Behind.the-variants.{NumberTo as numberTo, Always as always}
 pub use Rattle.messages.specs.declared.kinds.Packed.{Packed}
 pub use Rattle.messages.specs.declared.kinds.Packed.the-variants.{Patch as aPatch, Split as aSplit, AnyBytes as anyBytes}
 pub use Rattle.messages.specs.declared.kinds.Dump.{Dump}
 pub use Rattle.messages.specs.declared.kinds.Operands.{Operands}
-pub use Rattle.messages.specs.declared.kinds.Operands.the-variants.{Edit as anEdit, BusEdit as aBusEdit}
+pub use Rattle.messages.specs.declared.kinds.Operands.the-variants.{Edit as anEdit, BusEdit as aBusEdit, Operation as anOperation}
 pub use Rattle.messages.specs.declared.kinds.Short.{Short}
 pub use Rattle.messages.specs.declared.kinds.Kind.{Kind}
 pub use Rattle.messages.specs.declared.kinds.Kind.the-variants.{Dump as ofDump, Short as ofShort, Unknown as unknown}
@@ -49,6 +51,7 @@ sizeOf q = shapeOf q .count
 abbrev pub countOf : Operands → ℕ
 countOf anEdit = 2
 countOf aBusEdit = 4
+countOf (anOperation o) = bytesOf o
 
 -- A dump: F0H 10H 06H, opcode, the byte behind it, two data bytes for each packed byte, the sum, F7H.
 abbrev pub dumpKind : ℕ → Behind → Packed → Dump
@@ -59,7 +62,7 @@ abbrev pub shortKind : ℕ → Operands → Short
 shortKind o b = record { opcode = o; length = 5 + countOf b; operands = b }
 
 abbrev pub singlePatch : Dump
-singlePatch = dumpKind 0x01 (numberTo 99) aPatch
+singlePatch = dumpKind 0x01 (numberTo lastPatch) aPatch
 
 -- 02 (x). 003 prints 42 bytes in all; its own terms, 36 + 5 + 1 + 1, add up to 43.
 abbrev pub splitPatch : Dump
@@ -71,6 +74,22 @@ masterParameters = dumpKind 0x03 (always 3) (anyBytes master)
 abbrev pub remoteEdit : Short
 remoteEdit = shortKind 0x06 anEdit
 
+-- 02 (vii): the rest of the operations.
+abbrev pub requestData : Short
+requestData = shortKind 0x04 (anOperation aRequest)
+
+abbrev pub groupMode : Short
+groupMode = shortKind 0x07 (anOperation aGroup)
+
+abbrev pub setBank : Short
+setBank = shortKind 0x0A (anOperation aBank)
+
+abbrev pub unlockBank : Short
+unlockBank = shortKind 0x0C (anOperation anUnlock)
+
+abbrev pub storeEditBuffer : Short
+storeEditBuffer = shortKind 0x0E (anOperation aStore)
+
 abbrev pub busEdit : Short
 busEdit = shortKind 0x0B aBusEdit
 
@@ -80,7 +99,8 @@ editBuffer = dumpKind 0x0D (always 0) aPatch
 -- The kinds, in the order of the code's match.
 abbrev pub kinds : List Kind
 kinds =
-    ofDump singlePatch ∷ ofDump splitPatch ∷ ofDump masterParameters ∷ ofShort remoteEdit ∷ ofShort busEdit ∷ ofDump editBuffer ∷ []
+    ofDump singlePatch ∷ ofDump splitPatch ∷ ofDump masterParameters ∷ ofShort requestData ∷ ofShort remoteEdit ∷ ofShort groupMode ∷
+    ofShort setBank ∷ ofShort busEdit ∷ ofShort unlockBank ∷ ofDump editBuffer ∷ ofShort storeEditBuffer ∷ []
 
 abbrev pub opcodeOf : Kind → ℕ
 opcodeOf (ofDump k) = k .opcode

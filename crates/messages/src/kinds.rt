@@ -1,4 +1,6 @@
 // The kinds of message that the desk files: opcode and length of each, what it is made of, and which kind an opcode finds.
+use operations::LAST_PATCH;
+use operations::Operation;
 ghost use mathlib.Core.Path.{_≡_};
 ghost use Rattle.messages.specs.Kinds.{kindOf, sizeOf, countOf};
 ghost use Rattle.messages.specs.code.Sizes.{packedSize};
@@ -37,6 +39,15 @@ impl MasterParameters {
     pub const VERSION: u8 = 3;
 }
 
+// Request data: type, number.
+pub struct RequestData;
+
+impl RequestData {
+    pub const OPCODE: u8 = 0x04;
+
+    pub const LENGTH: usize = 7;
+}
+
 // Remote edit: parameter, value.
 pub struct RemoteEdit;
 
@@ -44,6 +55,24 @@ impl RemoteEdit {
     pub const OPCODE: u8 = 0x06;
 
     pub const LENGTH: usize = 7;
+}
+
+// Set group mode: total, ID.
+pub struct GroupMode;
+
+impl GroupMode {
+    pub const OPCODE: u8 = 0x07;
+
+    pub const LENGTH: usize = 7;
+}
+
+// Set bank: bank.
+pub struct SetBank;
+
+impl SetBank {
+    pub const OPCODE: u8 = 0x0A;
+
+    pub const LENGTH: usize = 6;
 }
 
 // Matrix modulation edit: bus, source, amount, destination.
@@ -55,6 +84,15 @@ impl BusEdit {
     pub const LENGTH: usize = 9;
 }
 
+// Unlock bank.
+pub struct UnlockBank;
+
+impl UnlockBank {
+    pub const OPCODE: u8 = 0x0C;
+
+    pub const LENGTH: usize = 5;
+}
+
 // Single patch to the edit buffer: zero, 268 nibbles, sum.
 pub struct EditBuffer;
 
@@ -62,6 +100,15 @@ impl EditBuffer {
     pub const OPCODE: u8 = 0x0D;
 
     pub const LENGTH: usize = 275;
+}
+
+// Store edit buffer: number, bank, ID.
+pub struct StoreEditBuffer;
+
+impl StoreEditBuffer {
+    pub const OPCODE: u8 = 0x0E;
+
+    pub const LENGTH: usize = 8;
 }
 
 // The packed bytes of a patch, of a split and of a master.
@@ -92,10 +139,11 @@ pub struct Dump {
     pub packed: Packed,
 }
 
-// The bytes behind a short message's opcode, with their own tests: an edit's two, or a bus edit's four.
+// The bytes behind a short message's opcode, with their own tests: an edit's two, a bus edit's four, or those of an operation.
 pub enum Operands {
     Edit,
     BusEdit,
+    Operation(Operation),
 }
 
 // A short message's kind.
@@ -114,7 +162,7 @@ pub enum Kind {
 pub const SINGLE_PATCH: Dump = Dump {
     opcode: SinglePatch::OPCODE,
     length: SinglePatch::LENGTH,
-    behind: Behind::NumberTo(99),
+    behind: Behind::NumberTo(LAST_PATCH),
     packed: Packed::Patch,
 };
 
@@ -132,10 +180,28 @@ pub const MASTER_PARAMETERS: Dump = Dump {
     packed: Packed::AnyBytes(MASTER),
 };
 
+pub const REQUEST_DATA: Short = Short {
+    opcode: RequestData::OPCODE,
+    length: RequestData::LENGTH,
+    operands: Operands::Operation(Operation::Request),
+};
+
 pub const REMOTE_EDIT: Short = Short {
     opcode: RemoteEdit::OPCODE,
     length: RemoteEdit::LENGTH,
     operands: Operands::Edit,
+};
+
+pub const GROUP_MODE: Short = Short {
+    opcode: GroupMode::OPCODE,
+    length: GroupMode::LENGTH,
+    operands: Operands::Operation(Operation::Group),
+};
+
+pub const SET_BANK: Short = Short {
+    opcode: SetBank::OPCODE,
+    length: SetBank::LENGTH,
+    operands: Operands::Operation(Operation::Bank),
 };
 
 pub const BUS_EDIT: Short = Short {
@@ -144,11 +210,23 @@ pub const BUS_EDIT: Short = Short {
     operands: Operands::BusEdit,
 };
 
+pub const UNLOCK_BANK: Short = Short {
+    opcode: UnlockBank::OPCODE,
+    length: UnlockBank::LENGTH,
+    operands: Operands::Operation(Operation::Unlock),
+};
+
 pub const EDIT_BUFFER: Dump = Dump {
     opcode: EditBuffer::OPCODE,
     length: EditBuffer::LENGTH,
     behind: Behind::Always(0),
     packed: Packed::Patch,
+};
+
+pub const STORE_EDIT_BUFFER: Short = Short {
+    opcode: StoreEditBuffer::OPCODE,
+    length: StoreEditBuffer::LENGTH,
+    operands: Operands::Operation(Operation::Store),
 };
 
 // The kind of an opcode.
@@ -159,9 +237,14 @@ pub fn kind_of(opcode: u8) -> Kind
         SinglePatch::OPCODE => Kind::Dump(SINGLE_PATCH),
         SplitPatch::OPCODE => Kind::Dump(SPLIT_PATCH),
         MasterParameters::OPCODE => Kind::Dump(MASTER_PARAMETERS),
+        RequestData::OPCODE => Kind::Short(REQUEST_DATA),
         RemoteEdit::OPCODE => Kind::Short(REMOTE_EDIT),
+        GroupMode::OPCODE => Kind::Short(GROUP_MODE),
+        SetBank::OPCODE => Kind::Short(SET_BANK),
         BusEdit::OPCODE => Kind::Short(BUS_EDIT),
+        UnlockBank::OPCODE => Kind::Short(UNLOCK_BANK),
         EditBuffer::OPCODE => Kind::Dump(EDIT_BUFFER),
+        StoreEditBuffer::OPCODE => Kind::Short(STORE_EDIT_BUFFER),
         _ => Kind::Unknown,
     }
 }
@@ -184,6 +267,7 @@ pub fn count_of(operands: Operands) -> usize
     match operands {
         Operands::Edit => 2,
         Operands::BusEdit => 4,
+        Operands::Operation(operation) => operations::count_of(operation),
     }
 }
 

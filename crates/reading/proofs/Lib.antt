@@ -1,3 +1,4 @@
 pub mod Spans
+pub mod Found
 pub mod Rooms
 pub mod Resume

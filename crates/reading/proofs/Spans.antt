@@ -7,7 +7,7 @@ use native.Mathlib.Omega.{arith}
 use lib.Dec.{eqb, leb}
 use lib.ListN.{length, drop, length-drop}
 use borrow.Author.Tests.{eqb-true, eqb-false}
-use Rattle.answers.specs.Table.{Verdict, done, refused, outcome}
+use Rattle.answers.specs.Table.{Verdict, done, refused, outcome, four}
 use Rattle.answers.specs.Effect.{Effect, Gives, toldAs}
 use Rattle.streams.specs.Bytes.{body, realTimeIn}
 use Rattle.streams.specs.Stream.{report, messageAt, reading, readInto}
@@ -18,7 +18,7 @@ use Rattle.frames.proofs.Found.{message-refused, message-complete}
 use Rattle.messages.specs.Judge.{judge}
 use Rattle.judging.specs.declared.Heard.{Heard}
 use Rattle.judging.specs.declared.Judged.{Judged}
-use Rattle.judging.specs.code.Judged.{told, recordedAs}
+use Rattle.judging.specs.code.Judged.{bytesIn, told, recordedAs}
 use Rattle.judging.specs.code.Heard.{verdictFrom, heardAs, heardFrom, recordedFrom}
 use Rattle.reading.specs.code.Told.{endFrom, reportOf, reportFrom, readingOf, readingFrom, readMessage}
 
@@ -50,6 +50,11 @@ module _ (t : List ℕ) where
 
   pub report-from : (f : ℕ) → reportFrom f (heardFrom t) ≡ reportOf (messageAt judge f t)
   report-from f = rw (placed-message f)
+
+  -- The same with the bytes that come with the answer.
+  pub reading-from : (f : ℕ) → readingFrom f (heardFrom t)
+      ≡ record { report = reportOf (messageAt judge f t); bytes = four (bytesIn (messageAt judge f t .verdict)) }
+  reading-from f = rw (placed-message f)
 
   -- A complete message has a byte behind its body, so it ends within the bytes.
   pub end-within : (f : ℕ) → endFrom f (spanOf t) ≤ f + 1 + length t

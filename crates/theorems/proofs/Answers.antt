@@ -10,9 +10,9 @@ use native.Mathlib.Decide.{decLe}
 use native.Mathlib.Omega.{arith}
 use lib.Dec.{eqb, leb, ltb}
 use lib.IntN.{ℤ, pos}
-use lib.ListN.{length, take, drop, length-map, length-set, drop-of-length-le}
+use lib.ListN.{length, take, drop, getD, length-map, length-set, drop-of-length-le}
 use lib.Seq.{drop-at, drop-append-seam, drop-drop}
-use borrow.Author.Tests.{eqb-true, leb-true, leb-false, le-ltb, lt-ltb}
+use borrow.Author.Tests.{eqb-true, leb-true, leb-false, le-leb, le-ltb, lt-ltb}
 use Rattle.answers.specs.declared.Outcome.{Outcome}
 use Rattle.answers.specs.Table.{Row, row, says, Verdict, done, refused, first, outcome, outcomeOf, four}
 use Rattle.answers.specs.Lists.{All}
@@ -41,7 +41,9 @@ use Rattle.messages.specs.Judge.{byteAt, lentOperandRows, messageRows, recordOf
 use Rattle.messages.specs.code.Sizes.{lentRows}
 use Rattle.messages.specs.Layout.{message, givenRows}
 use Rattle.messages.proofs.Numbers.{IsDone, made, record-done, message-refusals, given-refusals, packed-refusals, operand-refusals}
-use Rattle.reading.specs.code.Told.{reportOr, walked, reads}
+use Rattle.reading.specs.code.Told.{reportOr, walked, walkedWith, reads}
+use Rattle.units.specs.code.Steps.{told}
+use Rattle.units.proofs.Steps.{refused-stays}
 use Rattle.reading.specs.code.Rooms.{width, most, made as madeIn}
 use Rattle.writing.specs.declared.BankOutcome.{BankOutcome}
 use Rattle.writing.specs.Writing.{writingBank, bankBytes, firstBad, orLater, unlessBad}
@@ -52,7 +54,7 @@ use Rattle.edit_lists.specs.Plan.{plan as listFor, planning}
 use Rattle.edit_lists.specs.Check.{checking}
 use Rattle.edit_lists.proofs.Answers.{listRow, check-refusals}
 use Rattle.theorems.specs.Answers.{fromStart, found, complete, recordIn, opcodeIn, walkRows, thenRoom}
-use Rattle.theorems.specs.Answers.{Answered, patchesRows, bankTable, patchAt, PlaceOf, refused-patch, no-patch, Demand1}
+use Rattle.theorems.specs.Answers.{Answered, patchesRows, bankTable, patchAt, PlaceOf, refused-patch, no-patch, AreThese, Demand1}
 
 -- The walk finds nothing, and the first row says so; or it finds a message, and its verdict is that of the rows.
 data Found (s : List ℕ) (place : ℕ) : Type 0 where
@@ -479,6 +481,26 @@ made-all P s place room a =
     let from = reportsFrom judge (length s) s place in
     rw (← (reports-of judge s .by-states place)) (all-take P most (take (length room / width) from) (all-take P (length room / width) from a))
 
+-- The four bytes of an answer, place by place.
+these : (b : List ℕ) → AreThese b (four b)
+these b = record { count = refl; each = each }
+  where
+    each : (i : ℕ) → i < 4 → getD (four b) i 0 ≡ getD b i 0
+    each zero h = refl
+    each (suc zero) h = refl
+    each (suc (suc zero)) h = refl
+    each (suc (suc (suc zero))) h = refl
+    each (suc (suc (suc (suc i)))) h = absurd (omega arith)
+
+walk-given : (s : List ℕ) (place : ℕ) (r : Report) (o : ℕ) (b p : List ℕ) → walk judge s place ≡ some r → r .verdict ≡ done o b p
+    → AreThese b (walkedWith s place .bytes)
+walk-given s place r o b p e v = rw (e, v) (these b)
+
+read-given : (s : List ℕ) (place : ℕ) (lent : List ℕ) (r : Report) (o : ℕ) (b p : List ℕ) → walk judge s place ≡ some r
+    → r .verdict ≡ done o b p → length p ≤ length lent → AreThese b (reads s place lent .result .bytes)
+unfolding read
+read-given s place lent r o b p e v h = rw (e, v, le-leb (length p) (length lent) h) (these b)
+
 pub demand-1 : Demand1
 unfolding showing packing unpacking judge checking planning
 demand-1 = record {
@@ -498,6 +520,10 @@ demand-1 = record {
   read-bytes = read-no-bytes;
   test = λ p. decides (patchRows p) 0 [] [] _ (patch-refusals p) refl;
   test-split = λ p. decides (splitRows p) 0 [] [] _ (omega arith) refl;
+  read-given = read-given;
+  walk-given = walk-given;
+  step = λ u s place. refl;
+  step-refused = λ u s place h. ap (told (walked s place)) (refused-stays u s place h);
   range = range-answered;
   held = held-answered;
   range-refused = no-range;

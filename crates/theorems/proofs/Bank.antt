@@ -32,14 +32,13 @@ use Rattle.messages.specs.declared.kinds.Kind.the-variants.{Dump as ofDump}
 use Rattle.messages.specs.Kinds.{singlePatch, Filed as FiledKind, kindOf}
 use Rattle.messages.specs.Judge.{judge}
 use Rattle.messages.specs.Layout.{dump, message, givenRows}
-use Rattle.messages.proofs.Written.{Sound, sound}
+use Rattle.messages.proofs.Written.{Sound, sound, sound-holds}
 use Rattle.writing.specs.declared.BankOutcome.{BankOutcome}
 use Rattle.writing.specs.Writing.{writingBank, bankFrom, firstBad, orLater, unlessBad}
 use Rattle.writing.specs.code.Writers.{bankTested}
 use Rattle.writing.proofs.Laws.{length-patch, length-patch-dump, length-bank, bank-tested, none-bad}
 use Rattle.theorems.specs.Damage.{startBefore, startFrom, stream, reportsBefore, reportsAfter}
 use Rattle.theorems.specs.RoundTrips.{reportFor, bankReports, bankSent, BankReadBack}
-use Rattle.theorems.proofs.Writers.{sound-holds}
 use Rattle.theorems.proofs.Parts.{keep-all, keep-none}
 use Rattle.theorems.proofs.Containment.{Laid, parts, whole-parts}
 

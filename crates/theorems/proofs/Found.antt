@@ -31,7 +31,7 @@ use Rattle.edits.proofs.Tests.{edit-refusals, bus-refusals}
 use Rattle.messages.specs.declared.kinds.Kind.{Kind}
 use Rattle.messages.specs.declared.kinds.Kind.the-variants.{Dump as ofDump, Short as ofShort, Unknown as unknown}
 use Rattle.messages.specs.declared.kinds.Operands.{Operands}
-use Rattle.messages.specs.declared.kinds.Operands.the-variants.{Edit as anEdit, BusEdit as aBusEdit}
+use Rattle.messages.specs.declared.kinds.Operands.the-variants.{Edit as anEdit, BusEdit as aBusEdit, Operation as anOperation}
 use Rattle.messages.specs.declared.kinds.Packed.{Packed}
 use Rattle.messages.specs.Kinds.{shapeOf, sizeOf, countOf, kindOf}
 use Rattle.messages.specs.Judge.{byteAt, bytesFrom, dataOf, packedOf, dataRows, packedRows, operandRows, kindRows, recordOf, messageRows, judge}
@@ -124,6 +124,7 @@ operands-tell aBusEdit b =
     let at = sourceAt (getD b 0 0) in
     let bytes = getD b 1 0 ∷ extended (getD b 2 0) ∷ getD b 3 0 ∷ [] in
     (plain v 8 tt _, (eleven v (outFrom fields at bytes) (λ k w e. lowest-out fields at bytes .some-out k w e .value), (plain-at v 12 tt _, tt)))
+operands-tell (anOperation o) b = (plain (storing (anOperation o) b) 8 tt _, tt)
 
 kind-tells : (k : Kind) (m : List ℕ) → All (RowTells (bringing k (bytesIn (recordOf k m)) (packedIn (recordOf k m)))) (kindRows k m)
 unfolding dataRows packedOf
@@ -235,6 +236,7 @@ says-what-was-found =
     let d = demand-1 in
     record {
       walk = λ s place. decided _ (walkRows (foundIn s place)) (walk-tells (foundIn s place)) (d .walk s place);
+      step = λ u s place. decided _ (walkRows (foundIn s place)) (walk-tells (foundIn s place)) (d .walk s place);
       reports-each = reported;
       read = λ s place lent.
           let rows = walkRows (foundIn s place) in

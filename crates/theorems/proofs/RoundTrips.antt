@@ -27,12 +27,12 @@ use Rattle.messages.specs.Judge.{judge}
 use Rattle.messages.specs.Layout.{message, recordFor}
 use Rattle.messages.proofs.Filed.{all-filed}
 use Rattle.messages.proofs.Numbers.{refused-number}
-use Rattle.messages.proofs.Written.{sound}
+use Rattle.messages.proofs.Written.{sound, sound-holds}
 use Rattle.messages.proofs.AsWritten.{Accepted, accepted}
 use Rattle.theorems.specs.RoundTrips.{Ours, putting, sent, WrittenReadBack, Again, messageIn, WrittenAgain, ReadAgain, ReadWrittenAgain, Demand2}
 use Rattle.theorems.specs.Damage.{stream, reportsBefore, reportsAfter}
 use Rattle.theorems.proofs.Containment.{one-message, parts, whole-parts}
-use Rattle.theorems.proofs.Writers.{takes, taken, sound-holds}
+use Rattle.theorems.proofs.Writers.{takes, taken}
 use Rattle.theorems.proofs.Bank.{bank-read-back}
 
 -- Data bytes between F0H and F7H are one report of a stream.

@@ -9,13 +9,14 @@ use Rattle.fields.specs.Parameters.{ranging}
 use Rattle.ranges.specs.Ranges.{between, inRow, outFrom}
 use Rattle.patch.specs.Patch.{halfUsed, halfFrom, holding}
 use Rattle.splits.specs.Splits.{splitFields}
+use Rattle.operations.specs.Operations.{allowed}
 use Rattle.names.specs.Names.{stored, anyOutside, naming}
 use Rattle.ranges.specs.Values.{valueOf, valueBy}
 use Rattle.edits.specs.Edits.{extended, storedFor, editRows, busRows, withBus, applying, applyingBus}
 use Rattle.messages.specs.Kinds.{kindOf}
 use Rattle.messages.specs.Judge.{dataOf, packedOf, sumOf, dataRows, judge}
 use Rattle.messages.specs.Layout.{dump}
-use Rattle.theorems.specs.Examples.{Computes, starred, Starred, foundValues, FoundValues, splits, Splits}
+use Rattle.theorems.specs.Examples.{Computes, starred, Starred, foundValues, FoundValues, splits, Splits, operations, Operations}
 
 pub starred-hold : Starred
 unfolding nibbles total sum fields between inRow searchFrom placeOf outFrom halfUsed halfFrom stored anyOutside naming valueOf valueBy
@@ -36,3 +37,10 @@ unfolding nibbles total sum pack sumOf dataOf packedOf dataRows wideFrom splitFi
 splits-hold =
     let others : All Computes (drop 12 splits) = (refl, (refl, (refl, (refl, (refl, (refl, (refl, (refl, (refl, (refl, (refl, (refl, tt)))))))))))) in
     (refl, (refl, (refl, (refl, (refl, (refl, (refl, (refl, (refl, (refl, (refl, (refl, others))))))))))))
+
+pub operations-hold : Operations
+unfolding kindOf judge allowed
+operations-hold =
+    let last : All Computes (drop 24 operations) = (refl, (refl, (refl, (refl, (refl, (refl, (refl, (refl, (refl, (refl, (refl, (refl, (refl, tt))))))))))))) in
+    let middle : All Computes (drop 12 operations) = (refl, (refl, (refl, (refl, (refl, (refl, (refl, (refl, (refl, (refl, (refl, (refl, last)))))))))))) in
+    (refl, (refl, (refl, (refl, (refl, (refl, (refl, (refl, (refl, (refl, (refl, (refl, middle))))))))))))

@@ -23,7 +23,7 @@ use Rattle.edits.specs.promises.Withdrawn.{No8}
 use Rattle.edits.proofs.Tests.{edit-refusals, bus-refusals}
 use Rattle.edits.proofs.Amounts.{same-tests}
 use Rattle.messages.specs.declared.kinds.Operands.{Operands}
-use Rattle.messages.specs.declared.kinds.Operands.the-variants.{Edit as anEdit, BusEdit as aBusEdit}
+use Rattle.messages.specs.declared.kinds.Operands.the-variants.{Edit as anEdit, BusEdit as aBusEdit, Operation as anOperation}
 use Rattle.messages.specs.declared.kinds.Kind.{Kind}
 use Rattle.messages.specs.declared.kinds.Kind.the-variants.{Dump as ofDump, Short as ofShort, Unknown as unknown}
 use Rattle.messages.specs.Kinds.{maker, device, kindOf, countOf, lengthOf, isUnknown}
@@ -72,6 +72,7 @@ no-input-gives-14 =
     let judged : (m : List ℕ) → Not14 (outcomeOf (judge m)) = λ m. not-14 _ _ _ (message-refusals m) (d .judges m) in
     record {
       walk = λ s place. not-14 _ _ _ (walk-refusals (found s place)) (d .walk s place);
+      step = λ u s place. not-14 _ _ _ (walk-refusals (found s place)) (d .walk s place);
       reports-each = reported;
       reports-made = reported-made;
       read = λ s place lent. not-14 _ _ _ (room-refusals (walkRows (found s place)) _ lent (walk-refusals (found s place))) (d .read s place lent .decides);
@@ -105,6 +106,7 @@ short-same : (before : List Row) → No8 before → (o : Operands) (b : List ℕ
     → let rows = before ++ (operandRows o b ++ behind) in first (formerShort o b rows) v ≡ first rows v
 short-same before w anEdit b behind v = refl
 short-same before w aBusEdit b behind v = same-tests .same before w (getD b 0 0) (getD b 1 0) (getD b 2 0) (getD b 3 0) behind v
+short-same before w (anOperation o) b behind v = refl
 
 -- The rows of a message before those of its kind.
 module _ (m : List ℕ) (k : Kind) where
@@ -120,6 +122,7 @@ module _ (m : List ℕ) (k : Kind) where
   unfolding busRows
   message-same anEdit v = refl
   message-same aBusEdit v = short-same head (omega arith) aBusEdit (bytesFrom 4 4 m) [] v
+  message-same (anOperation o) v = refl
 
 kind-same : (k : Kind) (m : List ℕ)
     → let rows = head m k ++ kindRows k m in first (formerly k (bytesFrom 4 4 m) rows) (recordOf k m) ≡ first rows (recordOf k m)
@@ -150,6 +153,7 @@ write-same (ofShort k) b p out = by-operands (k .operands)
     by-operands aBusEdit =
         let m = message (ofShort k) b p in
         ap (changed (length m) (atStart m out) out) (lent-same aBusEdit b (row 13 (ltb (length out) (length m)) ∷ []) (done 0 [] []))
+    by-operands (anOperation o) = refl
 write-same unknown b p out = refl
 
 bus-same : (b s a d : ℕ) (p : List ℕ) → formerApplyingBus b s a d p ≡ applyingBus b s a d p

@@ -1,18 +1,13 @@
 -- A writer by its rows: it is done exactly when they say nothing and the message fits. What the rows say is what reading tests.
-use mathlib.Core.Path.{_≡_, sym, subst}
+use mathlib.Core.Path.{_≡_}
 use mathlib.Core.List.{List}
-use Prim.Native.Nat.{ℕ, _≤_, _<_}
+use Prim.Native.Nat.{ℕ, _≤_}
 use lib.ListN.{length}
-use Rattle.answers.specs.Lists.{All}
-use Rattle.answers.specs.Table.{Verdict}
 use Rattle.answers.proofs.Effects.{written-done, written-fits}
 use Rattle.answers.specs.promises.Decides.{Silent}
-use Rattle.streams.specs.Bytes.{framed}
 use Rattle.messages.specs.declared.kinds.Kind.{Kind}
-use Rattle.messages.specs.Judge.{judge}
-use Rattle.messages.specs.Layout.{message, recordFor, givenRows}
+use Rattle.messages.specs.Layout.{message, givenRows}
 use Rattle.messages.proofs.Numbers.{given-refusals}
-use Rattle.messages.proofs.Written.{Sound}
 use Rattle.writing.specs.Writing.{writing}
 use Rattle.theorems.specs.RoundTrips.{putting}
 
@@ -24,9 +19,3 @@ module _ (k : Kind) (b p : List ℕ) where
   -- Where it was written, they said nothing and it fitted.
   pub taken : (out : List ℕ) → writing k b p out .result .answer ≡ 0 → Silent (givenRows k b p) × (length (message k b p) ≤ length out)
   taken out e = written-done (givenRows k b p) (message k b p) out (given-refusals k b p) e
-
-  -- What holds of data bytes between F0H and F7H and what they come to holds of that message and its record.
-  pub sound-holds : (F : List ℕ → Verdict → Type 0) → ((c : List ℕ) → All (λ x. x < 0x80) c → F (framed c) (judge (framed c)))
-      → Sound k b p → F (message k b p) (recordFor k b p)
-  sound-holds F f s =
-      subst (λ (v : Verdict). F (message k b p) v) (s .accepted) (subst (λ (m : List ℕ). F m (judge m)) (sym (s .bytes)) (f (s .content) (s .seven)))

@@ -4,17 +4,18 @@ use mathlib.Core.Path.{_≡_}
 use mathlib.Core.Bool.{Bool, true, false, cond, not, _||_}
 use mathlib.Core.List.{List, [], _∷_, _++_, map}
 use mathlib.Core.Logic.{_⊎_}
-use mathlib.Core.Option.{Option}
-use Prim.Native.Nat.{ℕ, zero, suc, _*_, _/_, _%_, _<_}
+use mathlib.Core.Option.{Option, some}
+use Prim.Native.Nat.{ℕ, zero, suc, _*_, _/_, _%_, _≤_, _<_}
 use lib.Dec.{eqb, ltb}
 use lib.IntN.{pos}
 use lib.ListN.{length, take, drop, getD}
 use Rattle.answers.specs.declared.Outcome.{Outcome}
 use Rattle.answers.specs.Lists.{All}
-use Rattle.answers.specs.Table.{Row, row, Verdict, outcome, outcomeOf, four}
+use Rattle.answers.specs.Table.{Row, row, Verdict, done, outcome, outcomeOf, four}
 use Rattle.answers.specs.Effect.{tested}
 use Rattle.answers.specs.promises.Decides.{Decides, Keeps}
 use Rattle.streams.specs.Bytes.{body, withoutRealTime, framed}
+use Rattle.streams.specs.Stream as stream
 use Rattle.streams.specs.Stream.{packedIn, reportsFrom}
 use Rattle.nibbles.specs.Nibbles.{nibbles, pack, nibbleRows, packing, unpacking}
 use Rattle.ranges.specs.Ranges.{Table, countedRows}
@@ -31,9 +32,12 @@ use Rattle.messages.specs.Kinds.{kindOf}
 use Rattle.messages.specs.Judge.{byteAt, lentOperandRows, recordOf, messageRows, judge}
 use Rattle.messages.specs.code.Sizes.{lentRows}
 use Rattle.messages.specs.Layout.{message, givenRows}
-use Rattle.reading.specs.code.Told.{walked, reads}
+use Rattle.reading.specs.code.Told.{walked, walkedWith, reads}
 use Rattle.writing.specs.declared.BankOutcome.{BankOutcome}
 use Rattle.writing.specs.Writing.{writing, bankBytes, bankMost, writingBank}
+use Rattle.units.specs.declared.Unit.{Unit}
+use Rattle.units.specs.Units.{stays}
+use Rattle.units.specs.code.Steps.{told, steps}
 use Rattle.pairs.specs.Pairs.{pairRows}
 use Rattle.edit_lists.specs.Lists.{listBytes}
 use Rattle.edit_lists.specs.Plan.{plan as listFor, planning}
@@ -107,6 +111,11 @@ pub data PlaceOf (ps : List ℕ) (b : BankOutcome) : Type 0 where
       → ((k : ℕ) → k < b .place → tested (fieldRows (patchAt k ps)) ≡ outcome 0 0) → PlaceOf ps b
   no-patch : b .place ≡ 0 → (b .outcome .answer ≡ 0) ⊎ (b .outcome .answer ≡ 7) ⊎ (b .outcome .answer ≡ 13) → PlaceOf ps b
 
+-- Four bytes are the bytes b, which are at most four, with zeros behind them.
+pub record AreThese (b four : List ℕ) : Type 0 where
+  pub count : length four ≡ 4
+  pub each : (i : ℕ) → i < 4 → getD four i 0 ≡ getD b i 0
+
 -- Demand 1, whole.
 pub record Demand1 : Type 0 where
   pub walk : (s : List ℕ) (place : ℕ) → let l = found s place in Decides (walkRows l) (opcodeIn l) (walked s place .outcome)
@@ -128,6 +137,14 @@ pub record Demand1 : Type 0 where
   -- the bytes that come with the answer are zero with every answer but 0
   pub read-bytes : (s : List ℕ) (place : ℕ) (lent : List ℕ)
       → let r = reads s place lent .result in (r .report .outcome .answer ≡ 0 → ⊥) → r .bytes ≡ four []
+  -- with answer 0 they are those of the record, zero behind the last; so with the walk
+  pub read-given : (s : List ℕ) (place : ℕ) (lent : List ℕ) (r : stream.Report) (o : ℕ) (b p : List ℕ)
+      → stream.walk judge s place ≡ some r → r .verdict ≡ done o b p → length p ≤ length lent → AreThese b (reads s place lent .result .bytes)
+  pub walk-given : (s : List ℕ) (place : ℕ) (r : stream.Report) (o : ℕ) (b p : List ℕ)
+      → stream.walk judge s place ≡ some r → r .verdict ≡ done o b p → AreThese b (walkedWith s place .bytes)
+  -- a unit's step: it reports as the walk; refused, and where there is no message, the unit stays as it was and sends nothing on
+  pub step : (u : Unit) (s : List ℕ) (place : ℕ) → steps u s place .report ≡ walked s place
+  pub step-refused : (u : Unit) (s : List ℕ) (place : ℕ) → (walked s place .outcome .answer ≡ 0 → ⊥) → steps u s place ≡ told (walked s place) (stays u)
   -- a patch, and a split
   pub test : (p : List ℕ) → Decides (patchRows p) 0 (tested (patchRows p))
   pub test-split : (p : List ℕ) → Decides (splitRows p) 0 (tested (splitRows p))

@@ -1,12 +1,13 @@
--- The examples of document 01 that are marked *, as one table about the definitions that the contracts cite; and examples of requests (vi)
--- and (x).
+-- The examples of document 01 that are marked *, as one table about the definitions that the contracts cite; and examples of requests
+-- (vi), (x) and (vii).
 use mathlib.Core.Path.{_≡_}
+use mathlib.Core.Bool.{true, false}
 use mathlib.Core.List.{List, [], _∷_, _++_}
 use Prim.Native.Nat.{ℕ}
 use lib.ListN.{getD, set, replicate}
 use Rattle.answers.specs.declared.Outcome.{Outcome}
 use Rattle.answers.specs.Lists.{All}
-use Rattle.answers.specs.Table.{Verdict, refused, outcome, outcomeAt}
+use Rattle.answers.specs.Table.{Verdict, done, refused, outcome, outcomeAt}
 use Rattle.answers.specs.Effect.{Effect, tested}
 use Rattle.answers.specs.code.Numbers.{asNumber}
 use Rattle.fields.specs.Fields.{size}
@@ -18,10 +19,13 @@ use Rattle.ranges.specs.Values.{plus, minus, valueOf}
 use Rattle.edits.specs.Edits.{extended, applying, applyingBus}
 use Rattle.messages.specs.declared.kinds.Kind.{Kind}
 use Rattle.messages.specs.declared.kinds.Kind.the-variants.{Dump as ofDump, Short as ofShort}
-use Rattle.messages.specs.Kinds.{singlePatch, splitPatch, remoteEdit, busEdit}
+use Rattle.messages.specs.Kinds.{singlePatch, splitPatch, remoteEdit, busEdit, requestData, groupMode, unlockBank, storeEditBuffer}
 use Rattle.messages.specs.Judge.{judge}
 use Rattle.messages.specs.Layout.{messageOf, message, recordFor}
 use Rattle.writing.specs.Writing.{writing}
+use Rattle.units.specs.declared.Unit.{Unit}
+use Rattle.units.specs.Units.{stepBy}
+use Rattle.units.specs.promises.Followed.{unitOf, stepped}
 
 -- A row: what is computed, and what it comes to.
 pub data Example : Type 1 where
@@ -195,9 +199,9 @@ splits =
     15 ∷ 7 ∷ 15 ∷ 1 ∷ 1 ∷ 0 ∷ 15 ∷ 7 ∷ 15 ∷ 1 ∷ 1 ∷ 0 ∷ 15 ∷ 1 ∷ 3 ∷ 0 ∷ 0x56 ∷ 0xF7 ∷ [])) ∷
     gives (judge (splitDump 7 G)) (recordFor (ofDump splitPatch) (7 ∷ []) G) ∷
     gives (judge (splitDump 1 L)) (recordFor (ofDump splitPatch) (1 ∷ []) L) ∷
-    -- 000's dummy split has neither number nor sum: 7. Opcode 04H: 6.
+    -- 000's dummy split has neither number nor sum: 7. Opcode 05H: 6.
     gives (judge (messageOf (splitPatch .opcode) (replicate 36 0))) (refused (outcome 7 0)) ∷
-    gives (judge (messageOf 0x04 (1 ∷ 0 ∷ []))) (refused (outcome 6 0)) ∷
+    gives (judge (messageOf 0x05 (1 ∷ 0 ∷ []))) (refused (outcome 6 0)) ∷
     -- Several faults at once, mended one after another. Read: a byte too many, number 50, a data byte of 16, a wrong sum, byte 17 is 4.
     gives (judge (messageOf 0x02 (50 ∷ (16 ∷ (replicate 33 0 ++ (4 ∷ 0 ∷ 0 ∷ 0 ∷ [])))))) (refused (outcome 7 0)) ∷
     gives (judge (messageOf 0x02 (50 ∷ (16 ∷ (replicate 33 0 ++ (4 ∷ 0 ∷ 0 ∷ [])))))) (refused (outcome 8 0)) ∷
@@ -213,6 +217,77 @@ splits =
 
 abbrev pub Splits : Type 0
 Splits = All Computes splits
+
+-- Request (vii): a message with these bytes behind its device.
+abbrev pub received : List ℕ → Verdict
+received b = judge (0xF0 ∷ 0x10 ∷ 0x06 ∷ (b ++ (0xF7 ∷ [])))
+
+abbrev pub not-allowed : Verdict
+not-allowed = refused (outcome 8 0)
+
+abbrev pub wrong-length : Verdict
+wrong-length = refused (outcome 7 0)
+
+-- An output of eight bytes.
+abbrev pub sevens : List ℕ
+sevens = replicate 8 0x77
+
+-- A unit in bank 3, locked, in no group; the same as number 4 of one.
+abbrev pub alone : Unit
+alone = record { bank = 3; locked = true; grouped = false; number = 0 }
+
+abbrev pub fifth : Unit
+fifth = record { bank = 3; locked = true; grouped = true; number = 4 }
+
+abbrev pub operations : List Example
+operations =
+    -- 04H: type 1 has number 0..99, types 0, 3 and 4 have 0; there is no type 2 and no type 5.
+    gives (received (0x04 ∷ 1 ∷ 99 ∷ [])) (done 0x04 (1 ∷ 99 ∷ []) []) ∷
+    gives (received (0x04 ∷ 1 ∷ 100 ∷ [])) not-allowed ∷
+    gives (received (0x04 ∷ 0 ∷ 0 ∷ [])) (done 0x04 (0 ∷ 0 ∷ []) []) ∷
+    gives (received (0x04 ∷ 0 ∷ 1 ∷ [])) not-allowed ∷
+    gives (received (0x04 ∷ 2 ∷ 0 ∷ [])) not-allowed ∷
+    gives (received (0x04 ∷ 3 ∷ 0 ∷ [])) (done 0x04 (3 ∷ 0 ∷ []) []) ∷
+    gives (received (0x04 ∷ 4 ∷ 0 ∷ [])) (done 0x04 (4 ∷ 0 ∷ []) []) ∷
+    gives (received (0x04 ∷ 4 ∷ 1 ∷ [])) not-allowed ∷
+    gives (received (0x04 ∷ 5 ∷ 0 ∷ [])) not-allowed ∷
+    -- A byte too few is 7, before 8.
+    gives (received (0x04 ∷ 5 ∷ [])) wrong-length ∷
+    -- 07H: total 2..6, ID 0..5, each by itself.
+    gives (received (0x07 ∷ 6 ∷ 5 ∷ [])) (done 0x07 (6 ∷ 5 ∷ []) []) ∷
+    gives (received (0x07 ∷ 2 ∷ 5 ∷ [])) (done 0x07 (2 ∷ 5 ∷ []) []) ∷
+    gives (received (0x07 ∷ 1 ∷ 0 ∷ [])) not-allowed ∷
+    gives (received (0x07 ∷ 7 ∷ 0 ∷ [])) not-allowed ∷
+    gives (received (0x07 ∷ 6 ∷ 6 ∷ [])) not-allowed ∷
+    -- 0AH: bank 0..9. 0CH: nothing.
+    gives (received (0x0A ∷ 9 ∷ [])) (done 0x0A (9 ∷ []) []) ∷
+    gives (received (0x0A ∷ 10 ∷ [])) not-allowed ∷
+    gives (received (0x0C ∷ [])) (done 0x0C [] []) ∷
+    gives (received (0x0C ∷ 0 ∷ [])) wrong-length ∷
+    -- 0EH: number 0..99, bank 0..9, ID 0..5 or 7FH.
+    gives (received (0x0E ∷ 99 ∷ 9 ∷ 5 ∷ [])) (done 0x0E (99 ∷ 9 ∷ 5 ∷ []) []) ∷
+    gives (received (0x0E ∷ 0 ∷ 0 ∷ 0x7F ∷ [])) (done 0x0E (0 ∷ 0 ∷ 0x7F ∷ []) []) ∷
+    gives (received (0x0E ∷ 100 ∷ 9 ∷ 5 ∷ [])) not-allowed ∷
+    gives (received (0x0E ∷ 99 ∷ 10 ∷ 5 ∷ [])) not-allowed ∷
+    gives (received (0x0E ∷ 99 ∷ 9 ∷ 6 ∷ [])) not-allowed ∷
+    gives (received (0x0E ∷ 99 ∷ 9 ∷ 0x7E ∷ [])) not-allowed ∷
+    -- Written; refused, the output keeps its bytes.
+    gives (writing (ofShort groupMode) (3 ∷ 0 ∷ []) [] sevens) (effect (outcome 0 7) (0xF0 ∷ 0x10 ∷ 0x06 ∷ 0x07 ∷ 3 ∷ 0 ∷ 0xF7 ∷ 0x77 ∷ [])) ∷
+    gives (writing (ofShort unlockBank) [] [] sevens) (effect (outcome 0 5) (0xF0 ∷ 0x10 ∷ 0x06 ∷ 0x0C ∷ 0xF7 ∷ 0x77 ∷ 0x77 ∷ 0x77 ∷ [])) ∷
+    gives (writing (ofShort storeEditBuffer) (7 ∷ 2 ∷ 6 ∷ []) [] sevens) (effect (outcome 8 0) sevens) ∷
+    gives (writing (ofShort requestData) (1 ∷ 0 ∷ []) [] (replicate 6 0x77)) (effect (outcome 13 0) (replicate 6 0x77)) ∷
+    -- A unit: setting its bank does not change its group, nor the group its bank; the group message goes on; a store message for number 4.
+    gives (stepBy fifth (done 0x0A (8 ∷ []) [])) (stepped (unitOf 8 true true 4) [] false) ∷
+    gives (stepBy fifth (done 0x0C [] [])) (stepped (unitOf 3 false true 4) [] false) ∷
+    gives (stepBy alone (done 0x07 (6 ∷ 4 ∷ []) [])) (stepped fifth (0xF0 ∷ 0x10 ∷ 0x06 ∷ 0x07 ∷ 6 ∷ 5 ∷ 0xF7 ∷ []) false) ∷
+    gives (stepBy alone (done 0x07 (6 ∷ 5 ∷ []) [])) (stepped (unitOf 3 true true 5) [] false) ∷
+    gives (stepBy fifth (done 0x0E (7 ∷ 2 ∷ 4 ∷ []) [])) (stepped fifth [] true) ∷
+    gives (stepBy fifth (done 0x0E (7 ∷ 2 ∷ 0 ∷ []) [])) (stepped fifth [] false) ∷
+    gives (stepBy alone (done 0x0E (7 ∷ 2 ∷ 0 ∷ []) [])) (stepped alone [] true) ∷
+    gives (stepBy alone (done 0x0E (7 ∷ 2 ∷ 0x7F ∷ []) [])) (stepped alone [] false) ∷ []
+
+abbrev pub Operations : Type 0
+Operations = All Computes operations
 
 -- Every row holds.
 abbrev pub Starred : Type 0

@@ -19,7 +19,7 @@ use Rattle.edits.specs.Edits.{extended, storedFor, editRows, busRows, applying,
 use Rattle.messages.specs.declared.kinds.Kind.{Kind}
 use Rattle.messages.specs.declared.kinds.Kind.the-variants.{Dump as ofDump, Short as ofShort, Unknown as unknown}
 use Rattle.messages.specs.declared.kinds.Operands.{Operands}
-use Rattle.messages.specs.declared.kinds.Operands.the-variants.{Edit as anEdit, BusEdit as aBusEdit}
+use Rattle.messages.specs.declared.kinds.Operands.the-variants.{Edit as anEdit, BusEdit as aBusEdit, Operation as anOperation}
 use Rattle.messages.specs.declared.kinds.Packed.{Packed}
 use Rattle.messages.specs.Kinds.{shapeOf, kindOf}
 use Rattle.messages.specs.Judge.{byteAt, lentOperandRows, recordOf, judge}
@@ -28,6 +28,8 @@ use Rattle.judging.specs.code.Judged.{bytesIn}
 use Rattle.reading.specs.code.Told.{walked, reads}
 use Rattle.reading.specs.code.Rooms.{made}
 use Rattle.writing.specs.Writing.{writing, writingBank}
+use Rattle.units.specs.declared.Unit.{Unit}
+use Rattle.units.specs.code.Steps.{steps}
 use Rattle.pairs.specs.Pairs.{pairRows}
 use Rattle.edit_lists.specs.Plan.{planning}
 use Rattle.edit_lists.specs.Check.{checking}
@@ -47,11 +49,12 @@ abbrev pub standing : Option Table → List ℕ → ℕ → ℤ
 standing none p place = pos (getD p place 0)
 standing (some t) p place = valueIn t place (getD p place 0)
 
--- What an edit by its bytes would store at its place, or at each place of its bus.
+-- What an edit by its bytes would store at its place, or at each place of its bus; an operation stores nothing.
 abbrev pub storing : Operands → List ℕ → ℕ → ℤ
 storing anEdit b place = valueAt place (storedFor (getD b 0 0) (getD b 1 0))
 storing aBusEdit b place =
     valueAt place (getD (getD b 1 0 ∷ extended (getD b 2 0) ∷ getD b 3 0 ∷ []) (place - sourceAt (getD b 0 0)) 0)
+storing (anOperation o) b place = pos 0
 
 -- What a message of a kind brings, with the bytes b that come with the answer and a dump's packed bytes p.
 abbrev pub bringing : Kind → List ℕ → List ℕ → ℕ → ℤ
@@ -78,6 +81,8 @@ pub record SaysWhatWasFound : Type 0 where
   pub reports-made : (s : List ℕ) (place : ℕ) (room : List ℕ)
       → All (λ r. Tells (broughtBy (complete (found s (r .start)))) (outcomeOf (r .verdict))) (made s place room)
   pub judges : (m : List ℕ) → Tells (broughtBy m) (outcomeOf (judge m))
+  -- a unit's step
+  pub step : (u : Unit) (s : List ℕ) (place : ℕ) → Tells (broughtBy (complete (found s place))) (steps u s place .report .outcome)
   -- a message that is written; a bank, by the patch that it names
   pub write : (k : Kind) (b p out : List ℕ) → Tells (bringing k b p) (writing k b p out .result)
   pub bank : (ps out : List ℕ) → let r = writingBank ps out .result in Tells (inPatch (patchAt (r .place) ps)) (r .outcome)

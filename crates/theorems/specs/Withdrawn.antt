@@ -20,7 +20,7 @@ use Rattle.edits.specs.promises.Withdrawn.{with14}
 use Rattle.messages.specs.declared.kinds.Kind.{Kind}
 use Rattle.messages.specs.declared.kinds.Kind.the-variants.{Dump as ofDump, Short as ofShort, Unknown as unknown}
 use Rattle.messages.specs.declared.kinds.Operands.{Operands}
-use Rattle.messages.specs.declared.kinds.Operands.the-variants.{Edit as anEdit, BusEdit as aBusEdit}
+use Rattle.messages.specs.declared.kinds.Operands.the-variants.{Edit as anEdit, BusEdit as aBusEdit, Operation as anOperation}
 use Rattle.messages.specs.declared.kinds.Packed.{Packed}
 use Rattle.messages.specs.Kinds.{kindOf}
 use Rattle.messages.specs.Judge.{byteAt, bytesFrom, lentOperandRows, messageRows, recordOf, judge}
@@ -32,6 +32,8 @@ use Rattle.pairs.specs.Pairs.{pairRows}
 use Rattle.edit_lists.specs.Plan.{planning}
 use Rattle.edit_lists.specs.Check.{checking}
 use Rattle.writing.specs.Writing.{writing, writingBank}
+use Rattle.units.specs.declared.Unit.{Unit}
+use Rattle.units.specs.code.Steps.{steps}
 
 abbrev pub Not14 : Outcome → Type 0
 Not14 o = o .answer ≡ 14 → ⊥
@@ -43,6 +45,8 @@ pub record NoInputGives14 : Type 0 where
   pub reports-each : (s : List ℕ) (place : ℕ) → All (λ r. Not14 (outcomeOf (r .verdict))) (stream.reportsFrom judge (length s) s place)
   pub reports-made : (s : List ℕ) (place : ℕ) (room : List ℕ) → All (λ r. Not14 (outcomeOf (r .verdict))) (made s place room)
   pub read : (s : List ℕ) (place : ℕ) (lent : List ℕ) → Not14 (reads s place lent .result .report .outcome)
+  -- a unit's step
+  pub step : (u : Unit) (s : List ℕ) (place : ℕ) → Not14 (steps u s place .report .outcome)
   -- a message by itself, judged and recorded
   pub judges : (m : List ℕ) → Not14 (outcomeOf (judge m))
   pub records : (start end noise : ℕ) (m lent : List ℕ) → Not14 (stream.readInto start end (judge m) noise lent .result .outcome)
@@ -72,10 +76,11 @@ pub record NoInputGives14 : Type 0 where
   pub packs : (sent out : List ℕ) → Not14 (packing sent out .result)
   pub unpacks : (bytes out : List ℕ) → Not14 (unpacking bytes out .result)
 
--- The former table of a short message with the bytes b: that of a 0BH edit had the row, that of a 06H edit did not.
+-- The former table of a short message with the bytes b: that of a 0BH edit had the row, that of a 06H edit or of an operation had not.
 abbrev pub formerShort : Operands → List ℕ → List Row → List Row
 formerShort anEdit b rows = rows
 formerShort aBusEdit b rows = with14 (getD b 2 0) rows
+formerShort (anOperation o) b rows = rows
 
 -- The former table of a kind: that of a dump had no such row.
 abbrev pub formerly : Kind → List ℕ → List Row → List Row

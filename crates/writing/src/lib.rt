@@ -12,15 +12,20 @@ use messages::kinds::BUS_EDIT;
 use messages::kinds::DEVICE;
 use messages::kinds::Dump;
 use messages::kinds::EDIT_BUFFER;
+use messages::kinds::GROUP_MODE;
 use messages::kinds::MAKER;
 use messages::kinds::MASTER_PARAMETERS;
 use messages::kinds::MasterParameters;
 use messages::kinds::PATCH;
 use messages::kinds::REMOTE_EDIT;
+use messages::kinds::REQUEST_DATA;
+use messages::kinds::SET_BANK;
 use messages::kinds::SINGLE_PATCH;
 use messages::kinds::SPLIT_PATCH;
+use messages::kinds::STORE_EDIT_BUFFER;
 use messages::kinds::Short;
 use messages::kinds::SinglePatch;
+use messages::kinds::UNLOCK_BANK;
 use messages::kinds::size_of;
 ghost use mathlib.Core.Path.{_≡_};
 ghost use mathlib.Core.List.{[], _∷_, _++_};
@@ -32,6 +37,7 @@ ghost use Rattle.fields.specs.Fields.{size};
 ghost use Rattle.nibbles.specs.Nibbles.{sum};
 ghost use Rattle.messages.specs.declared.kinds.Kind.the-variants.{Dump as ofDump, Short as ofShort};
 ghost use Rattle.messages.specs.Kinds.{singlePatch, splitPatch, masterParameters, editBuffer, remoteEdit, busEdit};
+ghost use Rattle.messages.specs.Kinds.{requestData, groupMode, setBank, unlockBank, storeEditBuffer};
 ghost use Rattle.messages.specs.code.Sizes.{sized};
 ghost use Rattle.messages.specs.Layout.{dump, dumpGiven};
 ghost use Rattle.writing.specs.Writing.{writing, writingBank, bankBytes, firstBad, bankMost, noPlace};
@@ -183,6 +189,41 @@ pub fn write_bus_edit(bus: u8, source: u8, amount: u8, destination: u8, out: &mu
     ensures { λ r. ⌜ Gives (writing (ofShort busEdit) (bus ∷ source ∷ amount ∷ destination ∷ []) [] (now (out .entry))) r (now (out .exit)) ⌝ }
 {
     write_short(BUS_EDIT, &[bus, source, amount, destination], out)
+}
+
+// Writes a request for data: 8 for a type that is none, or a number that it has not, then 13. Done with detail 7.
+pub fn write_request_data(kind: u8, number: u8, out: &mut [u8]) -> Outcome
+    ensures { λ r. ⌜ Gives (writing (ofShort requestData) (kind ∷ number ∷ []) [] (now (out .entry))) r (now (out .exit)) ⌝ }
+{
+    write_short(REQUEST_DATA, &[kind, number], out)
+}
+
+// Writes group mode: 8 for a total that is not 2 to 6, or an ID above 5, then 13. Done with detail 7.
+pub fn write_group_mode(total: u8, id: u8, out: &mut [u8]) -> Outcome
+    ensures { λ r. ⌜ Gives (writing (ofShort groupMode) (total ∷ id ∷ []) [] (now (out .entry))) r (now (out .exit)) ⌝ }
+{
+    write_short(GROUP_MODE, &[total, id], out)
+}
+
+// Writes set bank: 8 for a bank above 9, then 13. Done with detail 6.
+pub fn write_set_bank(bank: u8, out: &mut [u8]) -> Outcome
+    ensures { λ r. ⌜ Gives (writing (ofShort setBank) (bank ∷ []) [] (now (out .entry))) r (now (out .exit)) ⌝ }
+{
+    write_short(SET_BANK, &[bank], out)
+}
+
+// Writes unlock bank: 13. Done with detail 5.
+pub fn write_unlock_bank(out: &mut [u8]) -> Outcome
+    ensures { λ r. ⌜ Gives (writing (ofShort unlockBank) [] [] (now (out .entry))) r (now (out .exit)) ⌝ }
+{
+    write_short(UNLOCK_BANK, &[], out)
+}
+
+// Writes store edit buffer: 8 for a number above 99, a bank above 9, or an ID that is neither 0 to 5 nor 7FH, then 13. Done with detail 8.
+pub fn write_store_edit_buffer(number: u8, bank: u8, id: u8, out: &mut [u8]) -> Outcome
+    ensures { λ r. ⌜ Gives (writing (ofShort storeEditBuffer) (number ∷ bank ∷ id ∷ []) [] (now (out .entry))) r (now (out .exit)) ⌝ }
+{
+    write_short(STORE_EDIT_BUFFER, &[number, bank, id], out)
 }
 
 // An outcome that is about no patch of a bank.

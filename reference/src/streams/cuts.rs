@@ -4,7 +4,7 @@
 //! A cut is how many of the bytes left are fed in the next call. Bytes that aren't taken are left,
 //! and fed again with as many more or fewer as the next cut says.
 
-use super::{inputs, pieces, stream, Random};
+use super::{inputs, operations, pieces, stream, Random};
 use crate::frames::{END, START};
 use crate::kinds::{length, opcode, MATRIX, OBERHEIM, VERSION};
 
@@ -46,7 +46,7 @@ static CUT_KINDS: [CutKind; 15] = [
     cut_kind("all at once", |_, length| vec![length]),
 ];
 
-static STREAM_KINDS: [StreamKind; 13] = [
+static STREAM_KINDS: [StreamKind; 15] = [
     stream_kind("real time alone", real_time_alone),
     stream_kind("starts only", |random| vec![START; random.within(1..=400)]),
     stream_kind("never ending", never_ending),
@@ -56,6 +56,12 @@ static STREAM_KINDS: [StreamKind; 13] = [
     stream_kind("a dump in a dump", dumps_in_dumps),
     stream_kind("many starts", |random| {
         repeated(random, 3, pieces::start_rich_noise)
+    }),
+    stream_kind("noisy operations", |random| {
+        repeated(random, 10, operations::noisy_operations)
+    }),
+    stream_kind("operations", |random| {
+        repeated(random, 30, operations::any_operation)
     }),
     stream_kind("edits", |random| repeated(random, 30, pieces::any_edit)),
     stream_kind("masters", |random| repeated(random, 4, pieces::master)),
@@ -179,8 +185,10 @@ fn more_each_time(_: &mut Random, length: usize) -> Vec<usize> {
 
 /// The length of a message, or one or two bytes fewer or more.
 fn near_a_message(random: &mut Random, length: usize) -> Vec<usize> {
-    const LENGTHS: [usize; 5] = [
+    const LENGTHS: [usize; 7] = [
+        length::UNLOCK_BANK,
         length::REMOTE_EDIT,
+        length::STORE_EDIT_BUFFER,
         length::BUS_EDIT,
         length::SPLIT,
         length::SINGLE_PATCH,

@@ -3,7 +3,10 @@
 use std::array;
 
 use super::Random;
-use crate::kinds::{LAST_SPLIT, MASTER_LENGTH};
+use crate::kinds::{
+    request, ANY_UNIT, FEWEST_UNITS, LAST_BANK, LAST_ID, LAST_NUMBER, LAST_SPLIT, MASTER_LENGTH,
+    MOST_UNITS,
+};
 use crate::patch::{half_used, BUSES};
 use crate::rows::Row;
 use crate::splits::{self, SPLIT_LENGTH};
@@ -337,6 +340,147 @@ pub fn bus_edit(random: &mut Random) -> [u8; 4] {
         _ => {}
     }
     edit
+}
+
+/// The types of request that have no number.
+const WITHOUT_NUMBER: [u8; 3] = [request::ALL, request::MASTER, request::EDIT_BUFFER];
+
+/// A request that is allowed: type, number.
+pub fn good_request(random: &mut Random) -> [u8; 2] {
+    if random.one_in(2) {
+        [random.pick(&WITHOUT_NUMBER), 0]
+    } else {
+        [request::SINGLE_PATCH, up_to(random, LAST_NUMBER)]
+    }
+}
+
+/// A request that isn't, of bytes up to `most`: with a number that its type hasn't, with one too
+/// great, or of a type that 000 doesn't name.
+pub fn bad_request(random: &mut Random, most: u8) -> [u8; 2] {
+    let [_, number] = good_request(random);
+    match random.below(4) {
+        0 => [random.pick(&WITHOUT_NUMBER), above(random, 0, most)],
+        1 => [request::SINGLE_PATCH, above(random, LAST_NUMBER, most)],
+        2 => [2, number],
+        _ => [above(random, request::EDIT_BUFFER, most), number],
+    }
+}
+
+/// A request as handed to a routine: any two bytes, with a liking for the edges.
+pub fn request(random: &mut Random) -> [u8; 2] {
+    handed(random, good_request, bad_request)
+}
+
+/// A group message that is allowed: total, ID, which need not be below the total.
+pub fn good_group(random: &mut Random) -> [u8; 2] {
+    let total = FEWEST_UNITS + up_to(random, MOST_UNITS - FEWEST_UNITS);
+    [total, up_to(random, LAST_ID)]
+}
+
+/// A group message that isn't, of bytes up to `most`: its total, its ID or both.
+pub fn bad_group(random: &mut Random, most: u8) -> [u8; 2] {
+    let [total, id] = good_group(random);
+    let bad_total = match random.below(3) {
+        0 => random.byte_within(0..=FEWEST_UNITS - 1),
+        _ => above(random, MOST_UNITS, most),
+    };
+    let bad_id = above(random, LAST_ID, most);
+    random.pick(&[[bad_total, id], [total, bad_id], [bad_total, bad_id]])
+}
+
+/// A group message as handed to a routine: any two bytes, with a liking for the edges.
+pub fn group(random: &mut Random) -> [u8; 2] {
+    handed(random, good_group, bad_group)
+}
+
+/// A bank number that is allowed.
+pub fn good_bank_number(random: &mut Random) -> [u8; 1] {
+    [up_to(random, LAST_BANK)]
+}
+
+/// A bank number that isn't, up to `most`.
+pub fn bad_bank_number(random: &mut Random, most: u8) -> [u8; 1] {
+    [above(random, LAST_BANK, most)]
+}
+
+/// A bank number as handed to a routine: any byte, with a liking for the edges.
+pub fn bank_number(random: &mut Random) -> [u8; 1] {
+    handed(random, good_bank_number, bad_bank_number)
+}
+
+/// A store message that is allowed: number, bank, ID.
+pub fn good_store(random: &mut Random) -> [u8; 3] {
+    let id = match random.below(4) {
+        0 => ANY_UNIT,
+        _ => up_to(random, LAST_ID),
+    };
+    [up_to(random, LAST_NUMBER), up_to(random, LAST_BANK), id]
+}
+
+/// A store message that isn't, of bytes up to `most`: its number, its bank, its ID, or two of them.
+pub fn bad_store(random: &mut Random, most: u8) -> [u8; 3] {
+    let mut store = good_store(random);
+    for _ in 0..random.pick(&[1, 1, 2]) {
+        let place = random.below(store.len());
+        store[place] = bad_store_byte(random, place, most);
+    }
+    store
+}
+
+/// A number, a bank or an ID, by its place behind the opcode, that no store message has, up to
+/// `most`.
+pub fn bad_store_byte(random: &mut Random, place: usize, most: u8) -> u8 {
+    match place {
+        0 => above(random, LAST_NUMBER, most),
+        1 => above(random, LAST_BANK, most),
+        _ => no_unit(random, most),
+    }
+}
+
+/// A store message as handed to a routine: any three bytes, with a liking for the edges.
+pub fn store(random: &mut Random) -> [u8; 3] {
+    handed(random, good_store, bad_store)
+}
+
+/// An ID up to `most` that is no unit's and not that of any.
+fn no_unit(random: &mut Random, most: u8) -> u8 {
+    loop {
+        let id = above(random, LAST_ID, most);
+        if id != ANY_UNIT {
+            return id;
+        }
+    }
+}
+
+/// A value up to the last one, the ends more often than the rest.
+fn up_to(random: &mut Random, last: u8) -> u8 {
+    match random.below(8) {
+        0 => 0,
+        1 => last,
+        _ => random.byte_within(0..=last),
+    }
+}
+
+/// A value above the last one, up to `most`: the next, the greatest, or any.
+fn above(random: &mut Random, last: u8, most: u8) -> u8 {
+    match random.below(4) {
+        0 => last + 1,
+        1 => most,
+        _ => random.byte_within(last + 1..=most),
+    }
+}
+
+/// The bytes of an operation: good, bad or any.
+fn handed<const LENGTH: usize>(
+    random: &mut Random,
+    good: fn(&mut Random) -> [u8; LENGTH],
+    bad: fn(&mut Random, u8) -> [u8; LENGTH],
+) -> [u8; LENGTH] {
+    match random.below(4) {
+        0 => bad(random, u8::MAX),
+        1 => array::from_fn(|_| random.byte()),
+        _ => good(random),
+    }
 }
 
 /// A lent output for a routine that may need `needed` bytes: random bytes, as many as needed, one

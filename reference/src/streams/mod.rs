@@ -4,10 +4,12 @@
 pub mod cuts;
 pub mod damage;
 pub mod inputs;
+mod operations;
 mod pieces;
 pub mod plans;
 mod random;
 pub mod seeds;
+pub mod units;
 
 pub use random::Random;
 
@@ -26,7 +28,15 @@ const fn kind(name: &'static str, piece: Piece) -> Kind {
 }
 
 /// The kinds, in the order in which seeds pick them.
-static KINDS: [Kind; 45] = [
+static KINDS: [Kind; 55] = [
+    kind("operation not allowed", operations::bad_operation),
+    kind(
+        "operation of a wrong length",
+        operations::operation_of_wrong_length,
+    ),
+    kind("real time in operations", operations::noisy_operations),
+    kind("operations", operations::operations),
+    kind("group chain", operations::group_chain),
     kind("real time only", pieces::real_time_only),
     kind("real time in runs", pieces::real_time_runs),
     kind("dense real time", pieces::dense_real_time),
@@ -39,6 +49,11 @@ static KINDS: [Kind; 45] = [
     kind("master", pieces::master),
     kind("remote edit", pieces::remote_edit),
     kind("bus edit", pieces::bus_edit),
+    kind("request data", operations::request_data),
+    kind("group mode", operations::group_mode),
+    kind("set bank", operations::set_bank),
+    kind("unlock bank", operations::unlock_bank),
+    kind("store edit buffer", operations::store_edit_buffer),
     kind("bank", pieces::bank),
     kind("good message", pieces::good_message),
     kind("byte replaced", pieces::replaced),
@@ -151,7 +166,7 @@ fn any_piece(random: &mut Random, out: &mut Vec<u8>) {
 
 /// A stream of exactly this many bytes.
 fn sized(random: &mut Random, size: usize) -> Vec<u8> {
-    match random.below(9) {
+    match random.below(10) {
         0 => vec![random.pick(&[0x00, START, END, 0xFE]); size],
         1 => {
             // A start, then real time only; sometimes the message is complete.
@@ -172,7 +187,8 @@ fn sized(random: &mut Random, size: usize) -> Vec<u8> {
         3 => filled(random, size, pieces::start_rich_noise),
         4 => filled(random, size, pieces::remote_edit),
         5 => filled(random, size, pieces::dense_real_time),
-        6 => {
+        6 => filled(random, size, operations::any_operation),
+        7 => {
             // A whole message at the very end.
             let mut last = Vec::new();
             pieces::good_message(random, &mut last);

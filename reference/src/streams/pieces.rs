@@ -1,26 +1,32 @@
 //! What streams are made of: messages good, bad, foreign and broken, and noise.
 
 use super::damage::{low_nibble, Damage};
+use super::operations::{bad_operation, operation, operation_of_wrong_length, MOST_SENT, SHORT};
 use super::{inputs, Random};
 use crate::frames::{END, START};
-use crate::kinds::{opcode, LAST_SPLIT, MASTER_LENGTH, MATRIX, OBERHEIM, VERSION};
+use crate::kinds::{length, opcode, LAST_SPLIT, MASTER_LENGTH, MATRIX, OBERHEIM, VERSION};
 use crate::nibbles;
 use crate::splits::SPLIT_LENGTH;
 
-const OPCODES: [u8; 6] = [
+const OPCODES: [u8; 11] = [
     opcode::SINGLE_PATCH,
     opcode::SPLIT,
     opcode::MASTER,
+    opcode::REQUEST_DATA,
     opcode::REMOTE_EDIT,
+    opcode::GROUP_MODE,
+    opcode::SET_BANK,
     opcode::BUS_EDIT,
+    opcode::UNLOCK_BANK,
     opcode::EDIT_BUFFER,
+    opcode::STORE_EDIT_BUFFER,
 ];
 
 /// Adds one piece to a stream.
 pub(super) type Piece = fn(&mut Random, &mut Vec<u8>);
 
 /// A message of this device: header, opcode, body, end. Nothing is tested.
-fn message(opcode: u8, body: &[u8], out: &mut Vec<u8>) {
+pub(super) fn message(opcode: u8, body: &[u8], out: &mut Vec<u8>) {
     out.extend_from_slice(&[START, OBERHEIM, MATRIX, opcode]);
     out.extend_from_slice(body);
     out.push(END);
@@ -105,13 +111,15 @@ pub(super) fn any_dump(random: &mut Random, out: &mut Vec<u8>) {
 
 /// An accepted message of any kind.
 pub(super) fn good_message(random: &mut Random, out: &mut Vec<u8>) {
-    const KINDS: [Piece; 6] = [
+    const KINDS: [Piece; 8] = [
         single_patch,
         split,
         edit_buffer,
         master,
         remote_edit,
         bus_edit,
+        operation,
+        operation,
     ];
     random.pick(&KINDS)(random, out);
 }
@@ -386,7 +394,7 @@ pub(super) fn other_device(random: &mut Random, out: &mut Vec<u8>) {
     out.push(END);
 }
 
-/// A message of this device with an opcode not among the six, or with none.
+/// A message of this device with an opcode not among the eleven, or with none.
 pub(super) fn other_opcode(random: &mut Random, out: &mut Vec<u8>) {
     let opcode = random.byte_within(0..=127);
     if random.one_in(8) || OPCODES.contains(&opcode) {
@@ -396,14 +404,14 @@ pub(super) fn other_opcode(random: &mut Random, out: &mut Vec<u8>) {
         good_message(random, out);
         out[start + 3] = opcode;
     } else {
-        let opcode = random.pick(&[0x00, 0x04, 0x05, 0x07, 0x0A, 0x0C, 0x0E, opcode]);
+        let opcode = random.pick(&[0x00, 0x05, 0x08, 0x09, 0x0F, opcode]);
         let mut body = Vec::new();
         data(random, 40, &mut body);
         message(opcode, &body, out);
     }
 }
 
-/// A message of the six kinds with a wrong length: one of another's, one near, or any.
+/// A message of the eleven kinds with a wrong length: one of another's, one near, or any.
 pub(super) fn wrong_length(random: &mut Random, out: &mut Vec<u8>) {
     if random.one_in(5) {
         return split_of_wrong_length(random, out);
@@ -416,15 +424,22 @@ pub(super) fn wrong_length(random: &mut Random, out: &mut Vec<u8>) {
             let at = random.within(start + 4..=out.len() - 1);
             out.insert(at, random.byte_within(0..=15));
         }
-        2 => {
-            out.remove(random.within(start + 4..=out.len() - 2));
-        }
+        2 => lose_or_add(random, start, out),
         _ => {
             let kept = random.within(start + 4..=out.len() - 1);
             out.truncate(kept);
             data(random, 400, out);
             out.push(END);
         }
+    }
+}
+
+/// A message at the stream's end loses a byte behind its opcode; one that has none there gets one.
+pub(super) fn lose_or_add(random: &mut Random, start: usize, out: &mut Vec<u8>) {
+    if out.len() - start == length::UNLOCK_BANK {
+        out.insert(start + 4, random.byte_within(0..=MOST_SENT));
+    } else {
+        out.remove(random.within(start + 4..=out.len() - 2));
     }
 }
 
@@ -445,7 +460,9 @@ pub(super) fn real_time_inside(random: &mut Random, out: &mut Vec<u8>) {
 }
 
 /// Messages with a fault, each complete.
-const FAULTY: [Piece; 10] = [
+const FAULTY: [Piece; 12] = [
+    bad_operation,
+    operation_of_wrong_length,
     bad_number,
     fields_out_of_range,
     split_out_of_range,
@@ -503,7 +520,7 @@ fn noisy_messages(random: &mut Random, noise: Noise, out: &mut Vec<u8>) {
 
 /// A message with noise among these bytes, complete, interrupted or left open. One that isn't
 /// complete may have lost some of them.
-fn noisy(random: &mut Random, inside: &[u8], noise: Noise, out: &mut Vec<u8>) {
+pub(super) fn noisy(random: &mut Random, inside: &[u8], noise: Noise, out: &mut Vec<u8>) {
     let part = &inside[..random.below(inside.len() + 1)];
     out.push(START);
     match random.below(4) {
@@ -656,12 +673,14 @@ pub(super) fn exchanged(random: &mut Random, out: &mut Vec<u8>) {
 /// A dump with two neighbouring data bytes replaced, mostly the nibbles of one packed byte.
 pub(super) fn pair_replaced(random: &mut Random, out: &mut Vec<u8>) {
     let start = out.len();
-    match random.below(16) {
+    match random.below(20) {
         0 => edit_begun_in_patch(random, out),
         1 => edit_begun_in_master(random, out),
         2 => last_nibble_and_sum(random, out),
         3 => split_begun_in_patch(random, out),
         4 => split_begun_in_master(random, out),
+        5 => store_begun_in_patch(random, out),
+        6 => operation_begun_in_master(random, out),
         _ => {
             any_dump(random, out);
             let data = start + 5..out.len() - 2;
@@ -729,6 +748,33 @@ fn split_begun_in_master(random: &mut Random, out: &mut Vec<u8>) {
     begun_in_master(random, &last, nibbles::sum(&split), out);
 }
 
+/// A patch dump whose last bus and checksum read as a store message behind F0H and 10H put before
+/// them. No other operation can end with a patch dump.
+fn store_begun_in_patch(random: &mut Random, out: &mut Vec<u8>) {
+    let mut patch = inputs::good_patch(random);
+    let [_, source, _, destination] = inputs::good_bus_edit(random);
+    let [_, _, id] = inputs::good_store(random);
+    patch[131..].copy_from_slice(&[source, opcode::STORE_EDIT_BUFFER << 4 | MATRIX, destination]);
+    // Byte 26 takes all seven bits, so it can make the sum the ID.
+    patch[26] = patch[26]
+        .wrapping_add(id)
+        .wrapping_sub(nibbles::sum(&patch))
+        & 0x7F;
+    let at = low_nibble(out.len(), 131);
+    patch_dump_of(random, &patch, out);
+    begin_header(at, out);
+}
+
+/// A master whose last data and checksum read as an operation behind F0H and 10H put before them.
+fn operation_begun_in_master(random: &mut Random, out: &mut Vec<u8>) {
+    let mut message = Vec::new();
+    operation(random, &mut message);
+    let [_, _, last @ .., sum, _] = &message[..] else {
+        unreachable!("an operation has five bytes at least");
+    };
+    begun_in_master(random, last, *sum, out);
+}
+
 /// A master with these last data and this checksum, and F0H and 10H put before them.
 fn begun_in_master(random: &mut Random, last: &[u8], sum: u8, out: &mut Vec<u8>) {
     let mut data = inputs::bytes(random, 2 * MASTER_LENGTH - last.len());
@@ -793,9 +839,9 @@ pub(super) fn start_rich_noise(random: &mut Random, out: &mut Vec<u8>) {
 }
 
 /// The bytes that messages begin and end with, and a few that break them.
-const MARKS: [u8; 17] = [
-    START, START, END, END, OBERHEIM, OBERHEIM, MATRIX, MATRIX, 0x01, 0x02, 0x03, 0x0B, 0x0D, 0x00,
-    0x7F, 0x80, 0xFE,
+const MARKS: [u8; 22] = [
+    START, START, END, END, OBERHEIM, OBERHEIM, MATRIX, MATRIX, 0x01, 0x02, 0x03, 0x04, 0x07, 0x0A,
+    0x0B, 0x0C, 0x0D, 0x0E, 0x00, 0x7F, 0x80, 0xFE,
 ];
 
 /// Noise made of headers, so that short messages come out of it.
@@ -803,7 +849,10 @@ pub(super) fn header_noise(random: &mut Random, out: &mut Vec<u8>) {
     for _ in 0..random.within(1..=40) {
         match random.below(4) {
             0 => out.extend_from_slice(&[START, OBERHEIM, MATRIX]),
-            1 => out.extend_from_slice(&[START, OBERHEIM, MATRIX, opcode::REMOTE_EDIT]),
+            1 => {
+                let (opcode, _) = random.pick(&SHORT);
+                out.extend_from_slice(&[START, OBERHEIM, MATRIX, opcode]);
+            }
             2 => out.push(END),
             _ => out.push(random.pick(&MARKS)),
         }

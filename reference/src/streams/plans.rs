@@ -6,7 +6,7 @@ use super::inputs::{
     bad_byte, bad_patch, bytes, good_bus_edit, good_byte, good_patch, half_used_bus, near,
     real_time, used_bus,
 };
-use super::{pieces, stream, Random};
+use super::{operations, pieces, stream, Random};
 use crate::kinds::opcode;
 use crate::names::NAME_LENGTH;
 use crate::patch::{Patch, BUSES};
@@ -459,7 +459,8 @@ fn dump_instead(random: &mut Random, pair: &Pair) -> Vec<u8> {
 
 /// An accepted message that is no edit, or one that our reader refuses.
 fn other_messages(random: &mut Random, pair: &Pair) -> Vec<u8> {
-    const OTHERS: [pieces::Piece; 8] = [
+    const OTHERS: [pieces::Piece; 9] = [
+        operations::any_operation,
         pieces::single_patch,
         pieces::edit_buffer,
         pieces::master,

@@ -5,7 +5,10 @@ use std::iter;
 use reference::{CableReader, Fed, Report, LONGEST_STREAM};
 
 use crate::cable_model::{took, without_message, Both, LIMIT};
-use crate::kit::{bass, bus_message, dump, edit_message, found, noisy, report, reported, P, SPLIT};
+use crate::kit::{
+    bass, bus_message, come_with_it, dump, edit_message, found, noisy, operation_message, report,
+    reported, OPERATIONS, P, SPLIT,
+};
 
 /// A call in which a message without a record ended.
 fn refused(taken: usize, report: Report) -> Fed {
@@ -116,7 +119,11 @@ fn records_of_every_kind() {
         (edit_message([12, 0x60]).to_vec(), [12, 0x60, 0, 0], vec![]),
         (bus_message(bytes), bytes, vec![]),
     ];
-    for (message, bytes, packed) in messages {
+    let operations = OPERATIONS.map(|(opcode, bytes)| {
+        let message = operation_message(opcode, bytes);
+        (message, come_with_it(bytes), vec![])
+    });
+    for (message, bytes, packed) in messages.into_iter().chain(operations) {
         let (length, opcode) = (message.len(), usize::from(message[3]));
         for at in 0..length {
             let mut both = Both::new();
@@ -202,12 +209,13 @@ fn content(header: &[u8], length: usize) -> Vec<u8> {
 
 #[test]
 fn longer_messages_are_followed_to_their_end() {
-    let headers: [(&[u8], u8); 6] = [
+    let headers: [(&[u8], u8); 7] = [
         (&[], 4),
         (&[0x10, 0x07], 5),
         (&[0x10, 0x06, 0x05], 6),
         (&[0x10, 0x06, 0x01], 7),
         (&[0x10, 0x06, 0x02], 7),
+        (&[0x10, 0x06, 0x0C], 7),
         (&[0x10, 0x06, 0x03, 0x03], 7),
     ];
     for (header, answer) in headers {

@@ -108,7 +108,7 @@ fn kinds_of_streams() {
     for kind in 0..STREAMS {
         let name = cable_stream_name(kind);
         let mut answers = BTreeSet::new();
-        for _ in 0..300 {
+        for _ in 0..1_000 {
             let stream = cable_stream_of(&mut random, kind);
             let found: Vec<Report> = reports(&stream).collect();
             answers.extend(found.iter().map(|report| report.answer));
@@ -125,6 +125,7 @@ fn kinds_of_streams() {
                 }),
                 "noisy dumps" => found.iter().all(|report| report.noise > 0),
                 "a dump in a dump" => last.is_some_and(|last| last.answer == 0),
+                "operations" | "noisy operations" => first.is_some(),
                 "edits" => first.is_some() && stream.len() <= 270,
                 "masters" => found.iter().all(|report| report.detail == 3),
                 "dumps" => found
@@ -148,6 +149,8 @@ fn kinds_of_streams() {
             "near the room's length" => &[0, 2, 3, 4, 5, 6, 7, 8, 9, 10],
             "a dump in a dump" => &[0, 3],
             "many starts" => &[2, 3, 4],
+            "operations" => &[0, 7, 8],
+            "noisy operations" => &[0, 2, 3, 7, 8],
             "edits" => &[0, 8, 11, 12],
             "splits" => &[0, 7, 11],
             "noisy dumps" | "masters" | "dumps" => &[0],
@@ -181,5 +184,6 @@ fn streams_reach_both_sides_of_the_room() {
         }
     }
     assert!(found.contains(&(349, 0)) && found.contains(&(349, 10)));
-    assert_eq!(longer, [1, 2, 3, 6, 11, 13].into_iter().collect());
+    let opcodes = [1, 2, 3, 4, 6, 7, 10, 11, 12, 13, 14];
+    assert_eq!(longer, opcodes.into_iter().collect());
 }

@@ -10,7 +10,7 @@ use reference::streams::plans::pair;
 use reference::streams::{inputs, stream, Random, CYCLE};
 use reference::{listing, plan_files};
 
-use crate::kit::{bass, dump, edit_message, p_with, with_real_time, P, SPLIT};
+use crate::kit::{bass, dump, edit_message, operation_message, p_with, with_real_time, P, SPLIT};
 use crate::plan_model;
 
 /// A dump of a patch.
@@ -161,6 +161,7 @@ fn files_with_other_messages() {
     master[350] = 0xF7;
     says_of(&master, &not("0 351 0 3 0 0"));
     says_of(&dump(0x02, 0, &SPLIT), &not("0 43 0 2 0 0"));
+    says_of(&operation_message(0x0C, &[]), &not("0 5 0 12 0 0"));
 
     // The second message is told whatever it is, if the first is good.
     let two = |second: &[u8]| [&good[..], second].concat();

@@ -143,6 +143,27 @@ pub fn bus_message(bytes: [u8; 4]) -> Vec<u8> {
     [&[0xF0, 0x10, 0x06, 0x0B], &bytes[..], &[0xF7]].concat()
 }
 
+/// An operation's message: its opcode and the bytes behind it.
+pub fn operation_message(opcode: u8, bytes: &[u8]) -> Vec<u8> {
+    [&[0xF0, 0x10, 0x06, opcode], bytes, &[0xF7]].concat()
+}
+
+/// An operation of each kind that is accepted: opcode, bytes behind it.
+pub const OPERATIONS: [(u8, &[u8]); 5] = [
+    (0x04, &[0x01, 0x05]),
+    (0x07, &[0x06, 0x00]),
+    (0x0A, &[0x05]),
+    (0x0C, &[]),
+    (0x0E, &[0x05, 0x01, 0x7F]),
+];
+
+/// The bytes of an operation as they come with the answer.
+pub fn come_with_it(bytes: &[u8]) -> [u8; 4] {
+    let mut four = [0; 4];
+    four[..bytes.len()].copy_from_slice(bytes);
+    four
+}
+
 /// Reads with a buffer that must be long enough, and gives what was put into it.
 pub fn record(input: &[u8], place: usize) -> (Reading, Vec<u8>) {
     let mut buffer = [0xA5; 172];

@@ -1,5 +1,5 @@
-//! Document 01 once more, with document 02's destinations, values, noise and splits, as slowly and
-//! plainly as it can be said, to hold the quick code against.
+//! Document 01 once more, with document 02's destinations, values, noise, splits and operations, as
+//! slowly and plainly as it can be said, to hold the quick code against.
 
 /// The condensed line of document 01 for bytes 8 to 85.
 const LINE: &str = "8:48:2 9:0:6 10:5:6 11:3:6 12:7:2 13:6:2 14:10:6 15:15:6 16:13:6 17:17:2 \
@@ -169,12 +169,20 @@ fn judge(fields: &[Field], message: &[u8]) -> Judged {
         0x01 | 0x0D => 275,
         0x02 => 43,
         0x03 => 351,
-        0x06 => 7,
+        0x04 | 0x06 | 0x07 => 7,
+        0x0A => 6,
         0x0B => 9,
+        0x0C => 5,
+        0x0E => 8,
         _ => return (6, 0, 0),
     };
     if message.len() != length {
         return (7, 0, 0);
+    }
+    match operation(&message[3..length - 1]) {
+        Some(true) => return (0, usize::from(opcode), 0),
+        Some(false) => return (8, 0, 0),
+        None => {}
     }
     let second = message[4];
     let place = fields.iter().position(|field| field.0 == Some(second));
@@ -195,6 +203,23 @@ fn judge(fields: &[Field], message: &[u8]) -> Judged {
         _ => dump(fields, opcode, &message[5..length - 2], message[length - 2]),
     };
     refusal.unwrap_or((0, usize::from(opcode), 0))
+}
+
+/// Whether an operation is allowed, from its opcode on; none for another kind.
+pub fn operation(told: &[u8]) -> Option<bool> {
+    let allowed = match *told {
+        [0x04, 0 | 3 | 4, number] => number == 0,
+        [0x04, 1, number] => number <= 99,
+        [0x04, _, _] => false,
+        [0x07, total, id] => (2..=6).contains(&total) && (0..=5).contains(&id),
+        [0x0A, bank] => bank <= 9,
+        [0x0C] => true,
+        [0x0E, number, bank, id] => {
+            number <= 99 && bank <= 9 && [0, 1, 2, 3, 4, 5, 0x7F].contains(&id)
+        }
+        _ => return None,
+    };
+    Some(allowed)
 }
 
 /// The byte that an edit of seven bits stores: from 64 on, bit 7 is set too. Parameter 21 is the

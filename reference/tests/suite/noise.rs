@@ -40,7 +40,7 @@ fn in_complete_messages() {
         for (message, noise, answer) in [
             (&[0xF0, byte, 0x41, 0xF7][..], 1, 4),
             (&[0xF0, 0x10, byte, byte, 0xF7], 2, 5),
-            (&[0xF0, 0x10, 0x06, 0x0C, byte, 0xF7], 1, 6),
+            (&[0xF0, 0x10, 0x06, 0x05, byte, 0xF7], 1, 6),
             (&[0xF0, byte, byte, byte, 0xF7], 3, 4),
         ] {
             let expected = noisy(noise, report(0, message.len(), answer, 0));

@@ -8,7 +8,7 @@ use reference::{is_real_time, reports, Report};
 use crate::kit::less_real_time;
 
 /// Seeds enough to meet every sort of noise.
-const SEEDS: u64 = 100 * CYCLE;
+const SEEDS: u64 = 200 * CYCLE;
 
 /// How a message ends.
 #[derive(Clone, Copy, Debug, PartialEq, Eq, PartialOrd, Ord)]
@@ -123,9 +123,10 @@ fn dense_and_sparse_in_messages_of_every_kind() {
         like.any(|told| told == (answer, every))
     };
     for every in [1, 2, 3, 16, 17, 31] {
-        for opcode in [0x01, 0x02, 0x03, 0x06, 0x0B, 0x0D] {
-            // An edit is too short for sparse ones.
-            let short = [0x06, 0x0B].contains(&opcode) && every > 3;
+        for opcode in (0x01..=0x0E).filter(|opcode| ![0x05, 0x08, 0x09].contains(opcode)) {
+            // An edit and an operation are too short for sparse ones.
+            let long = [0x01, 0x02, 0x03, 0x0D].contains(&opcode);
+            let short = !long && every > 3;
             assert_eq!(accepted(opcode, every), !short, "{opcode} {every}");
         }
         for answer in 2..=12 {

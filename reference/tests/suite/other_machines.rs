@@ -113,16 +113,17 @@ fn universal() {
 
 #[test]
 fn opcodes_left_out() {
-    let messages: [&[u8]; 7] = [
-        // 000: request data, group mode, set bank, unlock bank, store edit buffer.
-        &[0x04, 0x01, 0x05],
-        &[0x07, 0x02, 0x00],
-        &[0x0A, 0x05],
-        &[0x0C],
-        &[0x0E, 0x05, 0x01, 0x00],
+    let messages: [&[u8]; 8] = [
         // 003: single patch request, quick edit.
         &[0x00, 0x05],
         &[0x05],
+        // Between those of 000 and behind them, with the bytes of its operations.
+        &[0x08, 0x06, 0x00],
+        &[0x09, 0x05],
+        &[0x0F, 0x05, 0x01, 0x00],
+        &[0x10, 0x06],
+        &[0x40],
+        &[0x7F],
     ];
     for inside in messages {
         let inside = [&[0x10, 0x06], inside].concat();
@@ -152,7 +153,7 @@ fn a_mixed_stream_keeps_its_order() {
     let stream = [
         message(&[0x7E, 0x7F, 0x06, 0x01]),
         message(&[0x10, 0x02, 0x0D, 0x01]),
-        message(&[0x10, 0x06, 0x0C]),
+        message(&[0x10, 0x06, 0x05]),
         message(&[0x10, 0x06, 0x06, 0x15, 0x40]),
         message(&[0x0F, 0x09, 0x00, 0x00, 0x09]),
     ]

@@ -3,7 +3,8 @@
 use reference::streams::{inputs, stream, Random, CYCLE};
 use reference::{
     nibbles, reports, test_patch, write_bank, write_bus_edit, write_edit, write_edit_buffer,
-    write_master, write_patch, write_split, BankOutcome, Reading,
+    write_group_mode, write_master, write_patch, write_request_data, write_set_bank, write_split,
+    write_store_edit_buffer, write_unlock_bank, BankOutcome, Reading,
 };
 
 use crate::kit::{
@@ -17,9 +18,14 @@ fn rewritten(reading: &Reading, packed: &[u8]) -> Vec<u8> {
         0x01 => write_patch(a, packed, out),
         0x02 => write_split(a, packed, out),
         0x03 => write_master(packed, out),
+        0x04 => write_request_data(a, b, out),
         0x06 => write_edit(a, b, out),
+        0x07 => write_group_mode(a, b, out),
+        0x0A => write_set_bank(a, out),
         0x0B => write_bus_edit(a, b, c, d, out),
+        0x0C => write_unlock_bank(out),
         0x0D => write_edit_buffer(packed, out),
+        0x0E => write_store_edit_buffer(a, b, c, out),
         opcode => panic!("opcode {opcode}"),
     })
 }
@@ -109,6 +115,39 @@ fn edits_written_and_read_back_are_the_same_edits() {
         assert_eq!(reading_outcome(&reading), outcome(0, 0x0B));
         assert_eq!(reading.bytes, bytes);
     }
+}
+
+#[test]
+fn operations_written_and_read_back_are_the_same_operations() {
+    let mut random = Random::new(28);
+    for _ in 0..20_000 {
+        let [wanted, number] = inputs::good_request(&mut random);
+        let message = written(|out| write_request_data(wanted, number, out));
+        let (reading, _) = record(&message, 0);
+        assert_eq!(reading_outcome(&reading), outcome(0, 0x04));
+        assert_eq!(reading.bytes, [wanted, number, 0, 0]);
+
+        let [total, id] = inputs::good_group(&mut random);
+        let message = written(|out| write_group_mode(total, id, out));
+        let (reading, _) = record(&message, 0);
+        assert_eq!(reading_outcome(&reading), outcome(0, 0x07));
+        assert_eq!(reading.bytes, [total, id, 0, 0]);
+
+        let [bank] = inputs::good_bank_number(&mut random);
+        let message = written(|out| write_set_bank(bank, out));
+        let (reading, _) = record(&message, 0);
+        assert_eq!(reading_outcome(&reading), outcome(0, 0x0A));
+        assert_eq!(reading.bytes, [bank, 0, 0, 0]);
+
+        let [number, bank, id] = inputs::good_store(&mut random);
+        let message = written(|out| write_store_edit_buffer(number, bank, id, out));
+        let (reading, _) = record(&message, 0);
+        assert_eq!(reading_outcome(&reading), outcome(0, 0x0E));
+        assert_eq!(reading.bytes, [number, bank, id, 0]);
+    }
+    let (reading, _) = record(&written(write_unlock_bank), 0);
+    assert_eq!(reading_outcome(&reading), outcome(0, 0x0C));
+    assert_eq!(reading.bytes, [0; 4]);
 }
 
 #[test]

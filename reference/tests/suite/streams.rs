@@ -1,6 +1,6 @@
 //! The streams that seeds make.
 
-use std::collections::BTreeSet;
+use std::collections::{BTreeMap, BTreeSet};
 
 use reference::streams::damage::{damageable, Damage};
 use reference::streams::{inputs, kind_of, stream, Random, CYCLE};
@@ -25,7 +25,7 @@ fn consecutive_seeds_cover_every_kind_and_size() {
     for from in [0, 57, 1_000_000] {
         let seeds = from..from + CYCLE;
         let kinds: BTreeSet<_> = seeds.clone().map(kind_of).collect();
-        assert_eq!(kinds.len(), 46);
+        assert_eq!(kinds.len(), 56);
         let lengths: Vec<_> = seeds.map(|seed| stream(seed).len()).collect();
         for size in [65_535, 65_536, 65_537] {
             assert_eq!(lengths.iter().filter(|&&length| length == size).count(), 1);
@@ -48,7 +48,8 @@ fn every_answer_of_the_walk_is_met() {
         }
     }
     assert_eq!(answers, [0].into_iter().chain(2..=12).collect());
-    assert_eq!(opcodes, [1, 2, 3, 6, 11, 13].into_iter().collect());
+    let expected = [1, 2, 3, 4, 6, 7, 10, 11, 12, 13, 14];
+    assert_eq!(opcodes, expected.into_iter().collect());
 }
 
 #[test]
@@ -154,7 +155,7 @@ fn inputs_reach_the_last_destination_and_the_next() {
 
 /// The reports of all streams of a kind, each with its message less real time.
 fn reports_in(kind: &str) -> Vec<(Report, Vec<u8>)> {
-    let seeds = (0..100 * CYCLE).filter(|&seed| kind_of(seed) == kind);
+    let seeds = (0..300 * CYCLE).filter(|&seed| kind_of(seed) == kind);
     let found = seeds.flat_map(|seed| {
         let input = stream(seed);
         let message = |report: &Report| less_real_time(&input[report.start..report.end]);
@@ -206,13 +207,15 @@ fn streams_meet_the_refusals_of_nibble_pairs() {
 }
 
 #[test]
-fn streams_begin_edits_and_splits_inside_dumps() {
+fn streams_begin_other_messages_inside_dumps() {
     let mut found = BTreeSet::new();
     for pair in reports_in("nibble pair replaced").windows(2) {
         let [(outer, dump), (inner, begun)] = pair else {
             unreachable!("windows of two");
         };
-        let inside = outer.answer == 3 && outer.end == inner.start;
+        // Both together are as long as the dump was.
+        let whole = [275, 351].contains(&(dump.len() + begun.len()));
+        let inside = outer.answer == 3 && outer.end == inner.start && whole;
         if let ([_, _, _, around, ..], [0xF0, 0x10, 0x06, opcode, ..], true) =
             (&dump[..], &begun[..], inside)
         {
@@ -224,6 +227,14 @@ fn streams_begin_edits_and_splits_inside_dumps() {
         // In a master it can be accepted; in a patch its length is wrong.
         assert!(found.contains(&(0x03, opcode, 0)));
         assert!(found.contains(&(0x01, opcode, 7)) && found.contains(&(0x0D, opcode, 7)));
+    }
+    for opcode in [0x04, 0x07, 0x0A, 0x0C, 0x0E] {
+        assert!(found.contains(&(0x03, opcode, 0)));
+    }
+    // Only a store message can end with a patch.
+    for around in [0x01, 0x0D] {
+        let accepted = found.iter().filter(|told| (told.0, told.2) == (around, 0));
+        assert!(accepted.eq([&(around, 0x0E, 0)]));
     }
 }
 
@@ -408,6 +419,156 @@ fn dummy_splits_come_fifty_at_a_time() {
         })
         .max();
     assert!(most.flatten().is_some_and(|most| most >= 50));
+}
+
+/// Operations made in a way, with how many of them; whether all are allowed or none is.
+fn operations_made<const LENGTH: usize>(
+    random: &mut Random,
+    opcode: u8,
+    make: impl Fn(&mut Random) -> [u8; LENGTH],
+) -> BTreeMap<[u8; LENGTH], bool> {
+    let made = (0..40_000).map(|_| {
+        let bytes = make(random);
+        let allowed = model::operation(&[&[opcode], &bytes[..]].concat()).unwrap();
+        (bytes, allowed)
+    });
+    made.collect()
+}
+
+/// Good operations are all that there are; bad ones are none of these and keep to the greatest byte;
+/// those handed in are both.
+fn made_as_they_say<const LENGTH: usize>(
+    opcode: u8,
+    good: fn(&mut Random) -> [u8; LENGTH],
+    bad: fn(&mut Random, u8) -> [u8; LENGTH],
+    any: fn(&mut Random) -> [u8; LENGTH],
+) -> usize {
+    let mut random = Random::new(48);
+    let found = operations_made(&mut random, opcode, good);
+    assert!(found.values().all(|&allowed| allowed));
+    let all = found.len();
+    for most in [127, 255] {
+        let found = operations_made(&mut random, opcode, |random| bad(random, most));
+        assert!(found.values().all(|&allowed| !allowed));
+        // At each place a byte that is the greatest, and none above it.
+        for place in 0..LENGTH {
+            let greatest = found.keys().map(|bytes| bytes[place]).max();
+            assert_eq!(greatest, Some(most));
+        }
+    }
+    let found = operations_made(&mut random, opcode, any);
+    let allowed: BTreeSet<bool> = found.values().copied().collect();
+    assert_eq!(allowed.len(), 2);
+    all
+}
+
+#[test]
+fn good_and_bad_operations_are_what_they_say() {
+    let requests = made_as_they_say(
+        0x04,
+        inputs::good_request,
+        inputs::bad_request,
+        inputs::request,
+    );
+    assert_eq!(requests, 100 + 3);
+    let groups = made_as_they_say(0x07, inputs::good_group, inputs::bad_group, inputs::group);
+    assert_eq!(groups, 5 * 6);
+    let banks = made_as_they_say(
+        0x0A,
+        inputs::good_bank_number,
+        inputs::bad_bank_number,
+        inputs::bank_number,
+    );
+    assert_eq!(banks, 10);
+    let stores = made_as_they_say(0x0E, inputs::good_store, inputs::bad_store, inputs::store);
+    assert!(stores > 6_000, "{stores}");
+}
+
+/// Opcode, length less real time and answer of the operations in streams of a kind.
+fn operations_in(kind: &str) -> BTreeSet<(u8, usize, u8)> {
+    let found = reports_in(kind).into_iter();
+    let told = found.filter_map(|(report, message)| match message[..] {
+        [0xF0, 0x10, 0x06, opcode @ (0x04 | 0x07 | 0x0A | 0x0C | 0x0E), ..] => {
+            Some((opcode, message.len(), report.answer))
+        }
+        _ => None,
+    });
+    told.collect()
+}
+
+#[test]
+fn streams_have_operations_of_every_sort() {
+    let right = [(0x04, 7), (0x07, 7), (0x0A, 6), (0x0C, 5), (0x0E, 8)];
+    for (kind, good, bad, wrong) in [
+        ("operation not allowed", false, true, false),
+        ("operation of a wrong length", false, false, true),
+        ("real time in operations", true, true, true),
+        ("operations", true, true, true),
+        ("good message", true, false, false),
+        ("real time inside", true, false, false),
+        ("real time in runs", true, true, false),
+        ("dense real time", true, true, false),
+        ("real time in refused", false, true, true),
+    ] {
+        let found = operations_in(kind);
+        for (opcode, length) in right {
+            let meets = |length, answer| found.contains(&(opcode, length, answer));
+            assert!(!good || meets(length, 0), "{kind} {opcode}");
+            assert!(
+                !bad || opcode == 0x0C || meets(length, 8),
+                "{kind} {opcode}"
+            );
+            let shorter = opcode == 0x0C || meets(length - 1, 7);
+            assert!(!wrong || shorter && meets(length + 1, 7), "{kind} {opcode}");
+        }
+    }
+    for kind in ["cut", "interrupted", "real time in operations"] {
+        let found = operations_in(kind);
+        for (opcode, _) in right {
+            let broken = |answer| {
+                found
+                    .iter()
+                    .any(|told| (told.0, told.2) == (opcode, answer))
+            };
+            assert!(broken(2) && broken(3), "{kind} {opcode}");
+        }
+    }
+}
+
+#[test]
+fn each_kinds_length_is_met_behind_the_opcode_of_another() {
+    let found = operations_in("operation of a wrong length");
+    for (opcode, right) in [(0x04, 7), (0x07, 7), (0x0A, 6), (0x0C, 5), (0x0E, 8)] {
+        for length in (5..=9).filter(|&length| length != right) {
+            assert!(found.contains(&(opcode, length, 7)), "{opcode} {length}");
+        }
+    }
+}
+
+#[test]
+fn group_messages_go_from_unit_to_unit() {
+    let mut found = BTreeSet::new();
+    for pair in reports_in("group chain").windows(2) {
+        let [(_, one), (next, other)] = pair else {
+            unreachable!("windows of two");
+        };
+        if let (
+            &[0xF0, 0x10, 0x06, 0x07, total, id, 0xF7],
+            &[0xF0, 0x10, 0x06, 0x07, same, raised, 0xF7],
+        ) = (&one[..], &other[..])
+        {
+            if total == same && raised == id + 1 {
+                found.insert((total, raised, next.answer));
+            }
+        }
+    }
+    for total in 2..=6 {
+        for raised in 1..=6 {
+            // An ID of 6 is never accepted.
+            let answer = if raised == 6 { 8 } else { 0 };
+            assert!(found.contains(&(total, raised, answer)), "{total} {raised}");
+        }
+    }
 }
 
 #[test]

@@ -5,7 +5,9 @@ use std::ops::Range;
 use reference::streams::damage::{low_nibble, Damage};
 use reference::{read, reports, write_edit_buffer, write_patch, Outcome, Reading, Report};
 
-use crate::kit::{bass, dump, reading_outcome, report, reported, written, SPLIT};
+use crate::kit::{
+    bass, dump, operation_message, reading_outcome, report, reported, written, SPLIT,
+};
 
 /// The number of a patch's data bytes; the checksum stands behind them.
 pub const DATA: usize = 268;
@@ -135,11 +137,13 @@ pub fn surroundings() -> [(Vec<u8>, Vec<u8>); 4] {
     let other = written(|out| write_patch(98, &bass(), out));
     let split = dump(0x02, 49, &SPLIT);
     let edit = [0xF0, 0x10, 0x06, 0x06, 0x15, 0x7F, 0xF7];
+    let bank = operation_message(0x0A, &[5]);
+    let store = operation_message(0x0E, &[5, 1, 0x7F]);
     [
         (vec![], vec![]),
         (
-            [&[0x41, 0xF7, 0xFE], &other[..], &split].concat(),
-            [&edit, &split[..], &other].concat(),
+            [&[0x41, 0xF7, 0xFE], &other[..], &split, &bank].concat(),
+            [&store[..], &edit, &split, &other].concat(),
         ),
         (
             vec![0xF0, 0x10, 0x06, 0x01, 0xFE],

@@ -8,10 +8,10 @@ use reference::streams::damage::{low_nibble, Damage};
 use reference::streams::inputs::with_active_sensing;
 use reference::{
     apply_bus_edit, apply_edit, check_plan, listing, nibbles, plan_files, reports, show_name,
-    test_patch, test_split,
+    test_patch, test_split, Unit,
 };
 
-use crate::kit::{bass, less_real_time, outcome, record, report_outcome, P, SPLIT};
+use crate::kit::{bass, come_with_it, less_real_time, outcome, record, report_outcome, P, SPLIT};
 use crate::model;
 
 /// The names of the dumps in most of them.
@@ -212,6 +212,70 @@ fn dummy_splits_are_fifty_of_000s() {
         assert_eq!(dummy[4..40], [0; 36]);
         assert_eq!(dummy[40], 0xF7);
     }
+}
+
+#[test]
+fn operations_are_what_they_say() {
+    let stream = vector("operations");
+    let told: Vec<(usize, [u8; 4])> = reports(&stream)
+        .map(|report| (report.detail, record(&stream, report.start).0.bytes))
+        .collect();
+    let requests = [[0, 0], [1, 0], [1, 5], [1, 99], [3, 0], [4, 0]];
+    let groups = [[6, 0], [6, 5], [2, 0], [2, 5]];
+    let stores = [[0, 0, 0], [5, 1, 0], [99, 9, 5], [42, 3, 0x7F]];
+    let requests = requests.iter().map(|bytes| (4, come_with_it(bytes)));
+    let groups = groups.iter().map(|bytes| (7, come_with_it(bytes)));
+    let banks = [0, 5, 9].map(|bank| (10, [bank, 0, 0, 0]));
+    let stores = stores.iter().map(|bytes| (14, come_with_it(bytes)));
+    let unlock = [(12, [0; 4])];
+    let among_real_time = [(12, [0; 4]), (14, [5, 1, 0, 0]), (7, [6, 3, 0, 0])];
+    let expected = requests.chain(groups).chain(banks).chain(unlock);
+    let expected: Vec<_> = expected.chain(stores).chain(among_real_time).collect();
+    assert_eq!(told, expected);
+}
+
+#[test]
+fn operations_set_a_unit_up() {
+    let stream = vector("operations");
+    let (mut unit, mut place) = (Unit::default(), 0);
+    let (mut meant, mut sent) = (Vec::new(), Vec::new());
+    for report in reports(&stream) {
+        let step = unit.step(&stream, place);
+        assert_eq!(step.report, report);
+        (unit, place) = (step.unit, report.end);
+        meant.extend(step.meant.then_some(report.start));
+        sent.extend(step.sent.map(|message| (message[4], message[5])));
+    }
+    let group = Some(3);
+    let expected = Unit {
+        bank: 9,
+        locked: false,
+        group,
+    };
+    assert_eq!(unit, expected);
+    // Number 5 then: the third store message is its own and the fourth anyone's.
+    assert_eq!(meant, [109, 117]);
+    assert_eq!(sent, [(6, 1), (2, 1), (6, 4)]);
+}
+
+#[test]
+fn refused_operations_leave_a_unit_as_it_was() {
+    let stream = vector("operations_refused");
+    let mut unit = Unit {
+        bank: 7,
+        locked: false,
+        group: None,
+    };
+    let before = unit;
+    for report in reports(&stream) {
+        let step = unit.step(&stream, report.start);
+        assert!(!step.meant && step.sent.is_none());
+        // The one that interrupts another is accepted.
+        assert_eq!(report.answer == 0, report.start == 299);
+        assert_eq!(step.unit == before, report.start < 299);
+        unit = step.unit;
+    }
+    assert_eq!((unit.bank, unit.locked), (5, true));
 }
 
 #[test]

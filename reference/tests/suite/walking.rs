@@ -93,6 +93,9 @@ fn bytes_that_come_with_the_answer() {
     assert_eq!(read(&edit, 0, &mut []).bytes, [0x0C, 0x60, 0, 0]);
     let bus_edit = [0xF0, 0x10, 0x06, 0x0B, 2, 3, 0x7F, 4, 0xF7];
     assert_eq!(read(&bus_edit, 0, &mut []).bytes, [2, 3, 0x7F, 4]);
+    // And so do an operation's.
+    let store = [0xF0, 0x10, 0x06, 0x0E, 99, 9, 0x7F, 0xF7];
+    assert_eq!(read(&store, 0, &mut []).bytes, [99, 9, 0x7F, 0]);
 }
 
 #[test]

@@ -1,13 +1,15 @@
 //! Wider than document 02: neighbours exchanged anywhere behind a dump's F0H, and any two values in
-//! place of two neighbouring data bytes.
+//! place of two neighbouring data bytes. Of the latter one pair can make another message that is
+//! accepted: F0H and 10H in place of the last source begin a store message, if the last amount, the
+//! last destination and the checksum read so.
 
 use std::collections::BTreeSet;
 
 use reference::streams::damage::Damage;
 use reference::streams::{inputs, Random};
-use reference::Report;
+use reference::{reports, Report};
 
-use crate::kit::{outcome, report, reported, with_sum};
+use crate::kit::{outcome, record, report, reported, with_sum};
 use crate::model;
 use crate::neighbours::exchanged;
 use crate::undamaged::{by_turns, dumps, placed, surroundings, Undamaged, DATA};
@@ -22,7 +24,7 @@ fn slipped(undamaged: &Undamaged, at: usize) -> Report {
         2 => outcome(5, 0),
         // The number stands as the opcode; 0DH then has 01H where its zero should be.
         3 => match number {
-            0x02 | 0x03 | 0x06 | 0x0B => outcome(7, 0),
+            0x02..=0x04 | 0x06 | 0x07 | 0x0A..=0x0C | 0x0E => outcome(7, 0),
             0x0D => outcome(8, 0),
             _ => outcome(6, 0),
         },
@@ -88,9 +90,23 @@ fn where_a_patch_reads_as_the_header_of_a_split() {
     assert!(indices.contains(&53) && !indices.contains(&229));
 }
 
+#[test]
+fn where_a_patch_reads_as_the_header_of_an_operation() {
+    // One that ends with the dump has its 06H at 265 (04H and 07H), 266 (0AH), 267 (0CH) or 264
+    // (0EH). At 265 stands the high nibble of an amount, which isn't 6; at 267 that of a
+    // destination, which is neither 6 nor 0AH.
+    for opcode in [0x04, 0x07] {
+        assert!(!reads_06h_then(opcode).contains(&265));
+    }
+    assert!(!reads_06h_then(0x0A).contains(&266));
+    let fields = model::fields();
+    assert!((0x60..=0x6F).all(|byte| !model::allows(&fields, 133, byte)));
+    assert!(reads_06h_then(0x0E).contains(&264));
+}
+
 /// Patches whose data read as headers wherever the ranges allow it: as an edit's at byte 26, as a
-/// dump's or another message's in the last bus. The last three have sums that go with one.
-fn headers() -> [[u8; 134]; 6] {
+/// dump's or another message's in the last bus. The last four have sums that go with one.
+fn headers() -> [[u8; 134]; 7] {
     let mut random = Random::new(64);
     let mut patch = |vcf: [u8; 2], bus: [u8; 3]| {
         let mut patch = inputs::good_patch(&mut random);
@@ -104,17 +120,46 @@ fn headers() -> [[u8; 134]; 6] {
         patch([0x6F, 0x2B], [6, 0xD6, 0x16]),
         with_sum(patch([0, 0], [6, 0x06, 0x06]), 0x06),
         with_sum(patch([0, 0], [6, 0xF6, 0x16]), 0x10),
-        // 0EH with a patch number, a bank and a unit: of the right length, but not among the six.
+        // 0EH with a patch number, a bank and an ID: no unit's, and that of the first.
+        with_sum(patch([0, 0], [6, 0xE6, 0x01]), 0x06),
         with_sum(patch([0, 0], [6, 0xE6, 0x01]), 0x00),
     ]
 }
 
 /// What a message is answered that F0H and 10H begin inside a dump, before these bytes.
 fn begun(behind: &[u8]) -> u8 {
-    match behind {
-        [0x06, 0x01 | 0x02 | 0x03 | 0x06 | 0x0B | 0x0D, ..] => 7,
+    match *behind {
+        [0x06, 0x0E, _, _, id, 0xF7] if id <= 5 || id == 0x7F => 0,
+        [0x06, 0x0E, _, _, _, 0xF7] => 8,
+        [0x06, 0x01..=0x04 | 0x06 | 0x07 | 0x0A..=0x0E, ..] => 7,
         [0x06, ..] => 6,
         _ => 5,
+    }
+}
+
+/// Whether these two values at a place begin a message that is accepted.
+fn begins(undamaged: &Undamaged, at: usize, bytes: [u8; 2]) -> bool {
+    bytes == [0xF0, 0x10] && begun(&undamaged.stream[at + 2..undamaged.end]) == 0
+}
+
+#[test]
+fn a_store_begun_in_a_patch_is_accepted() {
+    let mut random = Random::new(70);
+    for id in (0..=5).chain([0x7F]) {
+        let mut patch = inputs::good_patch(&mut random);
+        patch[131..].copy_from_slice(&[20, 0xE6, 32]);
+        for undamaged in placed(&with_sum(patch, id)) {
+            let Undamaged { start, end, .. } = undamaged;
+            let at = undamaged.data().start + 262;
+            let bytes = [0xF0, 0x10];
+            assert!(begins(&undamaged, at, bytes));
+            let mut damaged = undamaged.stream.clone();
+            Damage::ReplaceTwo { at, bytes }.apply(&mut damaged);
+            let own = |report: &Report| (start..end).contains(&report.start);
+            let found: Vec<Report> = reports(&damaged).filter(own).collect();
+            assert_eq!(found, [report(start, at, 3, 0), report(at, end, 0, 0x0E)]);
+            assert_eq!(record(&damaged, at).0.bytes, [0, 2, id, 0]);
+        }
     }
 }
 
@@ -129,17 +174,24 @@ fn a_header_begun_at_every_place() {
             for (index, at) in undamaged.data().enumerate().take(DATA - 1) {
                 let bytes = [0xF0, 0x10];
                 let answer = begun(&undamaged.stream[at + 2..end]);
+                met.insert((index, answer));
+                if answer == 0 {
+                    continue;
+                }
                 assert_eq!(
                     undamaged.survives(Damage::ReplaceTwo { at, bytes }),
                     [report(start, at, 3, 0), report(at, end, answer, 0)]
                 );
-                met.insert((index, answer));
             }
         }
     }
     // An edit's header has too much behind it, a dump's in the last bus too little.
     assert!(met.is_superset(&[(50, 7), (51, 7), (262, 7), (264, 7), (266, 6)].into()));
     assert!(!met.contains(&(261, 7)) && !met.contains(&(263, 7)));
+    // A store message in the last bus has neither, and no other is accepted.
+    assert!(met.contains(&(262, 8)));
+    let accepted = met.iter().filter(|&&(_, answer)| answer == 0);
+    assert!(accepted.eq([&(262, 0)]));
 }
 
 #[test]
@@ -149,11 +201,14 @@ fn every_two_values_at_a_few_places() {
         for index in [0, 50, 51, 52, 261, 262, 263, 264, 265, 266] {
             let mut count = 0;
             let at = undamaged.data().start + index;
-            for damage in Damage::every_wide_pair(&undamaged.stream, at) {
+            let bytes = [0xF0, 0x10];
+            let begun = begins(&undamaged, at, bytes).then_some(Damage::ReplaceTwo { at, bytes });
+            let pairs = Damage::every_wide_pair(&undamaged.stream, at);
+            for damage in pairs.filter(|&damage| Some(damage) != begun) {
                 undamaged.survives(damage);
                 count += 1;
             }
-            assert_eq!(count, 256 * 256 - 1);
+            assert_eq!(count, 256 * 256 - 1 - usize::from(begun.is_some()));
         }
     }
 }
@@ -169,7 +224,8 @@ fn hostile_values_at_every_place() {
             let pairs = VALUES
                 .iter()
                 .flat_map(|&one| VALUES.map(|other| [one, other]));
-            for bytes in pairs.filter(|pair| pair != old) {
+            let others = pairs.filter(|pair| pair != old);
+            for bytes in others.filter(|&pair| !begins(&undamaged, at, pair)) {
                 undamaged.survives(Damage::ReplaceTwo { at, bytes });
             }
         }

@@ -90,7 +90,7 @@ fn written_and_applied() {
     assert_eq!(counts, [2, 12, 2, 0].map(|routes| routes * allowed));
 }
 
-/// The report of the message that starts here. No stream below has another of the six opcodes.
+/// The report of the message that starts here. No stream below has another of the eleven opcodes.
 fn message(stream: &[u8], start: usize) -> Report {
     let mut parts = stream[start + 1..].split(|byte| (0x80..=0xF7).contains(byte));
     let inside = parts.next().unwrap_or_default();

@@ -13,6 +13,7 @@ use Rattle.streams.specs.Stream as stream
 use Rattle.frames.specs.declared.Span.{Span}
 use Rattle.messages.specs.Judge.{judge}
 use Rattle.judging.specs.declared.Heard.{Heard}
+use Rattle.judging.specs.code.Judged.{bytesIn}
 use Rattle.reading.specs.declared.recording.Reading.{Reading}
 use Rattle.reading.specs.declared.walking.Report.{Report}
 
@@ -34,6 +35,15 @@ reportOr n (some r) = reportOf r
 -- The walk.
 abbrev pub walked : List ℕ → ℕ → Report
 walked s place = reportOr (length s) (stream.walk judge s place)
+
+-- The bytes that come with the answer of the message that is found; none where there is none.
+abbrev pub bytesFound : Option stream.Report → List ℕ
+bytesFound none = []
+bytesFound (some r) = bytesIn (r .verdict)
+
+-- The walk with them.
+abbrev pub walkedWith : List ℕ → ℕ → Reading
+walkedWith s place = record { report = walked s place; bytes = four (bytesFound (stream.walk judge s place)) }
 
 -- The end of a message whose F0H stands at place f: behind its F7H, else before the byte that ends it.
 abbrev pub endFrom : ℕ → Span → ℕ

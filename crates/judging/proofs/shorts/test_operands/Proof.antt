@@ -1,4 +1,4 @@
--- `test_operands` tests the count, then leaves the bytes to the edit's own tests.
+-- `test_operands` tests the count, then leaves the bytes to the edit's own tests, or to the operation's.
 use mathlib.Core.Path.{_≡_, sym, _∙_, ap}
 use native.Mathlib.Omega.{arith}
 use lib.ListN.{length}
@@ -21,7 +21,7 @@ edit-counted c = c .before .before .if1 .left ∙ c .before .before .before .cou
 bus-counted : (c : tie.After-enum-told2) → length (c .before .before .before .before .before .args .bytes .now) ≡ 4
 bus-counted c = c .before .before .if1 .left ∙ c .before .before .before .count-of .ensures ∙ ap countOf (c .enum-told2 .given .1)
 
-edit-first : tie.Need-shared-slice-read-t8
+edit-first : tie.Need-shared-slice-read-t9
 edit-first c = omega (arith, edit-counted (c .before))
 
 edit-second : tie.Need-shared-slice-read-test-edit
@@ -47,6 +47,13 @@ returns-3 c =
     let told = c .before .before .before .before .before in
     rw (told .enum-told2 .given .1, eq-eqb _ 4 (bus-counted told)) (c .test-bus-edit .ensures)
 
+returns-4 : tie.Need-returns-4
+returns-4 c =
+    let told = c .before .before in
+    let args = told .before .before .before .before .before .args in
+    let counted = told .before .before .if1 .left ∙ told .before .before .before .count-of .ensures in
+    rw (eq-eqb (length (args .bytes .now)) (countOf (args .operands)) counted, told .operands .given .1) (c .test-operation .ensures)
+
 pub test-operands-spec : {M : Type 1} → statement M
 test-operands-spec =
     tie.close
@@ -64,5 +71,8 @@ test-operands-spec =
     bus-third
     bus-fourth
     (λ c κs. search needs)
+    (λ c. search needs)
+    (λ c κs. search needs)
     returns-2
-    returns-3)
+    returns-3
+    returns-4)

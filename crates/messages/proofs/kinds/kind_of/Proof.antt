@@ -5,7 +5,7 @@ use Rattle.messages.proofs.Filed.{no-kind}
 use Rattle.messages.proofs.kinds.kind_of.Statement.{statement}
 use Rattle.messages.proofs.kinds.kind_of.Tie as tie
 
-other : tie.Need-returns-7
+other : tie.Need-returns-12
 unfolding kindOf
 other c = sym (no-kind (Unit {0}) kinds _ (c .match .rest) .1)
 
@@ -20,4 +20,9 @@ kind-of-spec =
     (λ c. rw (c .match .keys4))
     (λ c. rw (c .match .keys5))
     (λ c. rw (c .match .keys6))
+    (λ c. rw (c .match .keys7))
+    (λ c. rw (c .match .keys8))
+    (λ c. rw (c .match .keys9))
+    (λ c. rw (c .match .keys10))
+    (λ c. rw (c .match .keys11))
     other)

@@ -4,15 +4,15 @@ use mathlib.Core.List.{List}
 use Prim.Native.Nat.{ℕ, _+_, _-_}
 use native.Mathlib.Omega.{arith}
 use native.Mathlib.Numerals.{add-one}
-use lib.ListN.{length, take, drop, length-drop}
+use lib.ListN.{length, take, drop}
 use borrow.Author.Needs.{needs}
 use Rattle.answers.proofs.Lists.{to-end}
 use Rattle.streams.specs.Stream.{read}
 use Rattle.frames.proofs.Found.{walk-none, walk-found}
 use Rattle.messages.specs.Judge.{judge}
 use Rattle.judging.specs.declared.Heard.{Heard}
-use Rattle.reading.specs.code.Told.{endFrom}
-use Rattle.reading.proofs.Spans.{read-from, end-within}
+use Rattle.reading.proofs.Spans.{read-from}
+use Rattle.reading.proofs.Found.{end-fits}
 use Rattle.reading.proofs.recording.read.Statement.{statement}
 use Rattle.reading.proofs.recording.read.Tie as tie
 
@@ -30,12 +30,8 @@ report-of-requires c κs =
     let else1 = heard .before .before .before in
     let at = else1 .before in
     let start = at .before .before .before in
-    let s = start .args .s .now in
-    let i = at .find-start-from .result in
-    let part = take (length s - (i + 1)) (drop (i + 1) s) in
-    let end = ap (λ (h : Heard). endFrom i (h .span)) (heard .record-from .ensures .result) in
-    let size = ap length (to-end (i + 1) s) in
-    omega (arith, end, end-within part i, size, length-drop (i + 1) s, start .good, else1 .if1 .left)
+    let span = ap (λ (h : Heard). h .span) (heard .record-from .ensures .result) in
+    end-fits (start .args .s .now) (start .args .place) _ (at .find-start-from .ensures) (else1 .if1 .left) (omega (arith, start .good)) _ span
 
 returns-2 : tie.Need-returns-2
 unfolding read

@@ -1,0 +1,5 @@
+pub mod Steps
+pub mod Sent
+pub mod Fed
+pub mod Chains
+pub mod Followed

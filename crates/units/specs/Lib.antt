@@ -1,0 +1,3 @@
+pub mod Units
+pub mod promises
+pub mod code
