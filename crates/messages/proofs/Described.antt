@@ -9,7 +9,7 @@ use lib.Dec.{eqb}
 use lib.ListN.{length, length-append}
 use borrow.Author.Tests.{eqb-true, eqb-false, eq-eqb, ne-eqb}
 use Rattle.answers.specs.Lists.{All}
-use Rattle.answers.specs.Table.{row, first, done, outcome, outcomeOf, refused, answerOf}
+use Rattle.answers.specs.Table.{row, first, done, outcome, outcomeOf, refused}
 use Rattle.answers.specs.Effect.{tested}
 use Rattle.answers.proofs.Lists.{all-weaken}
 use Rattle.patch.specs.Patch.{halfFrom}

@@ -1,8 +1,8 @@
 -- A message that was heard, with its places: it comes to the same wherever its F0H stands, and ends there by its span.
-use mathlib.Core.Path.{_≡_, refl, sym, ap, _∙_}
+use mathlib.Core.Path.{_≡_, refl, ap, _∙_}
 use mathlib.Core.Bool.{Bool, true, false, cond}
 use mathlib.Core.List.{List, [], _∷_, _++_}
-use Prim.Native.Nat.{ℕ, suc, _+_, _≤_, _<_}
+use Prim.Native.Nat.{ℕ, suc, _+_, _≤_}
 use native.Mathlib.Omega.{arith}
 use lib.Dec.{eqb, leb}
 use lib.ListN.{length, drop, length-drop}
@@ -19,7 +19,7 @@ use Rattle.messages.specs.Judge.{judge}
 use Rattle.judging.specs.declared.Heard.{Heard}
 use Rattle.judging.specs.declared.Judged.{Judged}
 use Rattle.judging.specs.code.Judged.{bytesIn, told, recordedAs}
-use Rattle.judging.specs.code.Heard.{verdictFrom, heardAs, heardFrom, recordedFrom}
+use Rattle.judging.specs.code.Heard.{verdictFrom, heardFrom, recordedFrom}
 use Rattle.reading.specs.code.Told.{endFrom, reportOf, reportFrom, readingOf, readingFrom, readMessage}
 
 module _ (t : List ℕ) where

@@ -14,7 +14,7 @@ use Rattle.operations.proofs.Numbers.{in-numbers}
 use Rattle.messages.specs.Kinds.{kindOf}
 use Rattle.messages.specs.Judge.{judge}
 use Rattle.messages.proofs.Described.{described}
-use Rattle.units.specs.Units.{Unit, Stepped, inGroup, groupMessage, raised, stepping}
+use Rattle.units.specs.Units.{Unit, Stepped, inGroup, groupMessage, raised}
 use Rattle.units.specs.promises.Chain.{chained, lastSent, numbered, Each, stores, Chain, Chains}
 use Rattle.units.proofs.Sent.{told-sent}
 use Rattle.units.proofs.Fed.{fed, group-step, nothing-step}

@@ -2,18 +2,16 @@
 use mathlib.Core.Path.{_≡_, refl, _∙_}
 use mathlib.Core.Bool.{true}
 use mathlib.Core.List.{List, [], _∷_, append-nil}
-use Prim.Native.Nat.{ℕ, suc, _≤_, _<_}
-use native.Mathlib.Omega.{arith}
-use lib.Dec.{eqb}
+use Prim.Native.Nat.{ℕ, _≤_, _<_}
 use lib.ListN.{length}
-use borrow.Author.Tests.{eq-eqb, ne-eqb}
+use borrow.Author.Tests.{eq-eqb}
 use Rattle.answers.specs.Lists.{All}
 use Rattle.answers.specs.promises.Decides.{Silent}
 use Rattle.streams.specs.Bytes.{framed}
 use Rattle.streams.specs.Stream.{walk, firstFrom}
 use Rattle.streams.proofs.Complete.{data-bytes, walk-framed}
 use Rattle.operations.specs.declared.Operation.{Operation}
-use Rattle.operations.specs.declared.Operation.the-variants.{Group as aGroup, Store as aStore}
+use Rattle.operations.specs.declared.Operation.the-variants.{Group as aGroup}
 use Rattle.operations.specs.Operations.{bytesOf, allowed}
 use Rattle.operations.proofs.Numbers.{in-numbers}
 use Rattle.messages.specs.declared.kinds.Operands.the-variants.{Operation as anOperation}
@@ -23,7 +21,7 @@ use Rattle.messages.specs.Kinds.{shortKind, kindOf, Filed}
 use Rattle.messages.specs.Judge.{judge}
 use Rattle.messages.specs.Layout.{messageOf, givenRows}
 use Rattle.messages.proofs.Written.{sound, sound-holds}
-use Rattle.units.specs.Units.{Unit, groupMessage, meantFor, stays, joined, obeyed, stepBy, stepping}
+use Rattle.units.specs.Units.{Unit, groupMessage, stays, joined, obeyed, stepBy, stepping}
 
 -- Data bytes between F0H and F7H.
 step-framed : (u : Unit) (c : List ℕ) → All (λ b. b < 0x80) c → stepping u (framed c) 0 ≡ stepBy u (judge (framed c))

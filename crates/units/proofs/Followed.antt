@@ -1,5 +1,5 @@
 -- What a step comes to, in bytes: an operation as it is sent does what its bytes say; no other opcode finds a kind that does anything.
-use mathlib.Core.Path.{_≡_, refl, sym, _∙_}
+use mathlib.Core.Path.{_≡_, refl}
 use mathlib.Core.Bool.{Bool, true, false, cond, _||_}
 use mathlib.Core.List.{List, [], _∷_}
 use mathlib.Core.Logic.{_↔_, _⊎_, inl, inr}
@@ -11,7 +11,7 @@ use lib.ListN.{length}
 use borrow.Author.Tests.{lt-ltb, le-ltb, eqb-true, eqb-false, eq-eqb}
 use Rattle.answers.specs.Table.{Verdict, done, refused, outcomeOf}
 use Rattle.streams.specs.Stream.{Report, walk, reportsFrom, reports}
-use Rattle.operations.specs.declared.Operation.the-variants.{Group as aGroup, Bank as aBank, Unlock as anUnlock, Store as aStore}
+use Rattle.operations.specs.declared.Operation.the-variants.{Bank as aBank, Unlock as anUnlock, Store as aStore}
 use Rattle.operations.proofs.Numbers.{in-numbers}
 use Rattle.messages.specs.declared.kinds.Kind.{Kind}
 use Rattle.messages.specs.Kinds.{opcodeOf, kindOf, isUnknown}

@@ -1,5 +1,5 @@
 -- What a step comes to by the report of the walk and the bytes that come with it.
-use mathlib.Core.Path.{_≡_, refl, sym, ap, _∙_}
+use mathlib.Core.Path.{_≡_, refl, ap, _∙_}
 use mathlib.Core.List.{List}
 use mathlib.Core.Option.{Option, none, some}
 use Prim.Native.Nat.{ℕ, _%_}
@@ -7,7 +7,6 @@ use native.Mathlib.Nat.{mod-eq-of-lt}
 use native.Mathlib.Omega.{arith}
 use lib.ListN.{length}
 use Rattle.answers.specs.Table.{Verdict, done, refused, answerOf, four}
-use Rattle.streams.specs.Bytes.{framed}
 use Rattle.streams.specs.Stream.{Report, walk}
 use Rattle.streams.proofs.Complete.{complete}
 use Rattle.operations.specs.declared.Operation.{Operation}
@@ -19,7 +18,6 @@ use Rattle.messages.specs.declared.kinds.Kind.the-variants.{Dump as ofDump, Sho
 use Rattle.messages.specs.Kinds.{kindOf}
 use Rattle.messages.specs.Judge.{judge}
 use Rattle.messages.proofs.Accepted.{accepted}
-use Rattle.judging.specs.code.Judged.{bytesIn}
 use Rattle.reading.specs.declared.recording.Reading.{Reading}
 use Rattle.reading.specs.code.Told.{reportOr, bytesFound, walked, walkedWith}
 use Rattle.units.specs.code.Steps.{told, steps}

@@ -1,5 +1,4 @@
 -- `request_allowed`: at each type its form computes; no form has another type.
-use mathlib.Core.Path.{_≡_}
 use borrow.Author.Tests.{ne-eqb}
 use Rattle.operations.specs.Operations.{allowed}
 use Rattle.operations.proofs.Forms.{alone}
