@@ -49,7 +49,7 @@ meets (only value) b m = eq-eqb b value m
 meets (upTo greatest) b m = le-leb b greatest m
 meets (between least greatest) b m = rw (le-leb least b (m .0)) (le-leb b greatest (m .1))
 
-pub form-met : (f : List Values) (b : List ℕ) → hasForm f b ≡ true → FormMet f b
+form-met : (f : List Values) (b : List ℕ) → hasForm f b ≡ true → FormMet f b
 form-met [] [] e = tt
 form-met [] (b ∷ bs) e = let z : _≡_ {A = ℕ} 0 1 = cc in absurd (omega arith)
 form-met (v ∷ vs) [] e = let z : _≡_ {A = ℕ} 0 1 = cc in absurd (omega arith)
@@ -78,11 +78,11 @@ meets-one (f ∷ fs) b (inr m) = by (hasForm f b) (meets-one fs b m)
     by true later = refl
     by false later = later
 
-pub allowed-met : (o : Operation) (b : List ℕ) → allowed o b ≡ true → OneMet (formsOf o) b
+allowed-met : (o : Operation) (b : List ℕ) → allowed o b ≡ true → OneMet (formsOf o) b
 unfolding allowed
 allowed-met o b e = one-met (formsOf o) b e
 
-pub met-allowed : (o : Operation) (b : List ℕ) → OneMet (formsOf o) b → allowed o b ≡ true
+met-allowed : (o : Operation) (b : List ℕ) → OneMet (formsOf o) b → allowed o b ≡ true
 unfolding allowed
 met-allowed o b m = meets-one (formsOf o) b m
 

@@ -1,6 +1,7 @@
 // The bytes behind the opcode of the five operations, by source document 000: how many each has, and which values they may have.
 ghost use mathlib.Core.Path.{_≡_};
 ghost use mathlib.Core.List.{[], _∷_};
+ghost use lib.ListN.{getD};
 ghost use Rattle.operations.specs.Operations.{aRequest, aGroup, aStore, bytesOf, allowed as allowedFor};
 
 // Request data, set group mode, set bank, unlock bank, store edit buffer.
@@ -90,6 +91,16 @@ fn store_allowed(number: u8, bank: u8, id: u8) -> bool
     id <= LAST_UNIT
 }
 
+// A byte, zero behind the last.
+fn byte_or_zero(bytes: &[u8], i: usize) -> u8
+    ensures { λ r. ⌜ r ≡ getD (now (bytes .entry)) i 0 ⌝ }
+{
+    if i < bytes.len() {
+        return bytes[i];
+    }
+    0
+}
+
 // The bytes are as many as the operation has, and their values are allowed.
 pub fn allowed(operation: Operation, bytes: &[u8]) -> bool
     ensures { λ r. ⌜ r ≡ allowedFor operation (now (bytes .entry)) ⌝ }
@@ -98,10 +109,14 @@ pub fn allowed(operation: Operation, bytes: &[u8]) -> bool
         return false;
     }
     match operation {
-        Operation::Request => request_allowed(bytes[0], bytes[1]),
-        Operation::Group => group_allowed(bytes[0], bytes[1]),
-        Operation::Bank => bytes[0] <= LAST_BANK,
+        Operation::Request => request_allowed(byte_or_zero(bytes, 0), byte_or_zero(bytes, 1)),
+        Operation::Group => group_allowed(byte_or_zero(bytes, 0), byte_or_zero(bytes, 1)),
+        Operation::Bank => byte_or_zero(bytes, 0) <= LAST_BANK,
         Operation::Unlock => true,
-        Operation::Store => store_allowed(bytes[0], bytes[1], bytes[2]),
+        Operation::Store => store_allowed(
+            byte_or_zero(bytes, 0),
+            byte_or_zero(bytes, 1),
+            byte_or_zero(bytes, 2),
+        ),
     }
 }

@@ -2,7 +2,6 @@
 use mathlib.Core.Path.{_≡_, sym, _∙_, ap}
 use mathlib.Core.List.{List}
 use Prim.Native.Nat.{ℕ}
-use native.Mathlib.Omega.{arith}
 use lib.ListN.{length}
 use borrow.Author.Needs.{needs}
 use Rattle.answers.specs.Lists.{bytesFrom}
@@ -17,66 +16,45 @@ miscounted c =
     let args = c .before .before .before .args in
     sym (other-count (args .operation) (args .bytes .now) (λ e. c .if1 .taken (e ∙ sym (c .before .count-of .ensures))))
 
--- The bytes are as many as the operation has.
-request-counted : (c : tie.After-enum-told) → length (c .before .before .before .before .before .args .bytes .now) ≡ 2
-request-counted c = c .before .before .if1 .left ∙ c .before .before .before .count-of .ensures ∙ ap bytesOf (c .enum-told .given .1)
-
-group-counted : (c : tie.After-enum-told2) → length (c .before .before .before .before .before .args .bytes .now) ≡ 2
-group-counted c = c .before .before .if1 .left ∙ c .before .before .before .count-of .ensures ∙ ap bytesOf (c .enum-told2 .given .1)
-
-bank-counted : (c : tie.After-enum-told3) → length (c .before .before .before .before .before .args .bytes .now) ≡ 1
-bank-counted c = c .before .before .if1 .left ∙ c .before .before .before .count-of .ensures ∙ ap bytesOf (c .enum-told3 .given .1)
-
-unlock-counted : (c : tie.After-enum-told4) → length (c .before .before .before .before .before .args .bytes .now) ≡ 0
-unlock-counted c = c .before .before .if1 .left ∙ c .before .before .before .count-of .ensures ∙ ap bytesOf (c .enum-told4 .given .1)
-
-store-counted : (c : tie.After-enum-told5) → length (c .before .before .before .before .before .args .bytes .now) ≡ 3
-store-counted c = c .before .before .if1 .left ∙ c .before .before .before .count-of .ensures ∙ ap bytesOf (c .enum-told5 .given .1)
-
-request-first : tie.Need-shared-slice-read-request-allowed
-request-first c = omega (arith, request-counted (c .before))
-
-request-second : tie.Need-shared-slice-read-request-allowed-2
-request-second c = omega (arith, request-counted (c .before .before))
-
-group-first : tie.Need-shared-slice-read-group-allowed
-group-first c = omega (arith, group-counted (c .before))
-
-group-second : tie.Need-shared-slice-read-group-allowed-2
-group-second c = omega (arith, group-counted (c .before .before))
-
-the-bank : tie.Need-shared-slice-read-result
-the-bank c = omega (arith, bank-counted (c .before))
-
-store-first : tie.Need-shared-slice-read-store-allowed
-store-first c = omega (arith, store-counted (c .before))
-
-store-second : tie.Need-shared-slice-read-store-allowed-2
-store-second c = omega (arith, store-counted (c .before .before))
-
-store-third : tie.Need-shared-slice-read-store-allowed-3
-store-third c = omega (arith, store-counted (c .before .before .before))
-
--- The bytes of the operation that is told, spelled out.
-told-as : (o p : Operation) (b : List ℕ) (n : ℕ) → o ≡ p → length b ≡ n → allowedFor p (bytesFrom n 0 b) ≡ allowedFor o b
-told-as o p b n e l = rw e (ap (allowedFor p) (sym (spelled b n l)))
+-- The operation that is told, with its bytes spelled out: there are n of them, as many as it has.
+told-as : (o p : Operation) (b : List ℕ) (n : ℕ) → o ≡ p → n ≡ bytesOf o → length b ≡ n → allowedFor p (bytesFrom (bytesOf p) 0 b) ≡ allowedFor o b
+told-as o p b n e q l = rw e (ap (allowedFor p) (sym (spelled b (bytesOf p) (l ∙ q ∙ ap bytesOf e))))
 
 request : tie.Need-returns-2
-request c = let t = c .before .before .before in c .request-allowed .ensures ∙ told-as _ _ _ 2 (t .enum-told .given .1) (request-counted t)
+request c =
+    let t = c .before .before .before in
+    let left = t .before .before in
+    rw (c .before .before .byte-or-zero .ensures, c .before .byte-or-zero2 .ensures) at (c .request-allowed .ensures)
+    ∙ told-as _ _ _ _ (t .enum-told .given .1) (left .before .count-of .ensures) (left .if1 .left)
 
 group : tie.Need-returns-3
-group c = let t = c .before .before .before in c .group-allowed .ensures ∙ told-as _ _ _ 2 (t .enum-told2 .given .1) (group-counted t)
+group c =
+    let t = c .before .before .before in
+    let left = t .before .before in
+    rw (c .before .before .byte-or-zero3 .ensures, c .before .byte-or-zero4 .ensures) at (c .group-allowed .ensures)
+    ∙ told-as _ _ _ _ (t .enum-told2 .given .1) (left .before .count-of .ensures) (left .if1 .left)
 
 bank : tie.Need-returns-4
 unfolding allowedFor
-bank c = let t = c .before in alone _ ∙ told-as _ _ _ 1 (t .enum-told3 .given .1) (bank-counted t)
+bank c =
+    let t = c .before in
+    let left = t .before .before in
+    rw (c .byte-or-zero5 .ensures) (alone _ ∙ told-as _ _ _ _ (t .enum-told3 .given .1) (left .before .count-of .ensures) (left .if1 .left))
 
 unlock : tie.Need-returns-5
 unfolding allowedFor
-unlock c = told-as _ _ _ 0 (c .enum-told4 .given .1) (unlock-counted c)
+unlock c = let left = c .before .before in told-as _ _ _ _ (c .enum-told4 .given .1) (left .before .count-of .ensures) (left .if1 .left)
 
 store : tie.Need-returns-6
-store c = let t = c .before .before .before .before in c .store-allowed .ensures ∙ told-as _ _ _ 3 (t .enum-told5 .given .1) (store-counted t)
+store c =
+    let t = c .before .before .before .before in
+    let left = t .before .before in
+    rw (
+      c .before .before .before .byte-or-zero6 .ensures,
+      c .before .before .byte-or-zero7 .ensures,
+      c .before .byte-or-zero8 .ensures,
+    ) at (c .store-allowed .ensures)
+    ∙ told-as _ _ _ _ (t .enum-told5 .given .1) (left .before .count-of .ensures) (left .if1 .left)
 
 pub allowed-spec : {M : Type 1} → statement M
 allowed-spec =
@@ -85,20 +63,20 @@ allowed-spec =
     (λ c κs. search needs)
     miscounted
     (λ c. search needs)
-    request-first
-    request-second
+    (λ c κs. search needs)
+    (λ c κs. search needs)
     (λ c κs. search needs)
     (λ c. search needs)
-    group-first
-    group-second
+    (λ c κs. search needs)
+    (λ c κs. search needs)
     (λ c κs. search needs)
     (λ c. search needs)
-    the-bank
+    (λ c κs. search needs)
     (λ c. search needs)
     (λ c. search needs)
-    store-first
-    store-second
-    store-third
+    (λ c κs. search needs)
+    (λ c κs. search needs)
+    (λ c κs. search needs)
     (λ c κs. search needs)
     request
     group
