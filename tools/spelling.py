@@ -13,7 +13,7 @@ import sys
 NAME = r"[A-Za-z_][\w'-]*"
 TOKEN = re.compile(r"(?<![\w'₀-₉-])[A-Za-z_](?:[\w'₀-₉]|-(?=[\w]))*")
 SIGNATURE = re.compile(r"^\s*(?:(?:pub|abbrev|unfoldable|opaque|private)\s+)*(" + NAME + r")(?:\s*\{[^}]*\})*\s*:(?![:=])\s")
-USE = re.compile(r"\buse\s+([\w.·'+-]+)(?:\.\{([^}]*)\})?(?:\s+as\s+(" + NAME + r"))?")
+USE = re.compile(r"\buse\s+([\w·'+-]+(?:\.[\w·'+-]+)*)(?:\.\{([^}]*)\})?(?:\s+as\s+(" + NAME + r"))?")
 CRATES = sorted(c for c in os.listdir("crates") if os.path.isdir(os.path.join("crates", c, "src")))
 OWN_MODULE = re.compile(r"^Rattle\.(" + "|".join(CRATES) + r")\.(specs|proofs)\b")
 MADE = re.compile(r"\.(Tie|Statement|Goals|Given|TheVariants)$|\.specs\.declared\.")

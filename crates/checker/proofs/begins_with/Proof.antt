@@ -3,7 +3,7 @@ use mathlib.Core.Path.{◌≡◌, sym, ◌∙◌}
 use Prim.Native.Nat.{◌+◌, ◌-◌}
 use native.Mathlib.Omega.{arith}
 use borrow.Author.Rules.{rules}
-use borrow.Author.Tests.{not_true, not-false}
+use borrow.Author.Tests.{not-true, not-false}
 use Rattle.checker.proofs.Heads.{begins_by, too_few}
 use Rattle.checker.proofs.begins_with.Statement.{statement}
 use Rattle.checker.proofs.begins_with.Tie as tie
@@ -16,7 +16,7 @@ returns c =
 returns-2 : tie.Need-returns-2
 returns-2 c =
     let k = c.before.before.before.before in
-    let other = sym c.before.opens.ensures ∙ not_true _ c.if2.true in
+    let other = sym c.before.opens.ensures ∙ not-true _ c.if2.true in
     sym (begins_by k.args.opcode (k.args.size - 5) k.args.s.now (omega (arith, k.requires)) ∙ rw other)
 
 returns-3 : tie.Need-returns-3

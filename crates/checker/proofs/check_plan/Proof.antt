@@ -4,7 +4,7 @@ use mathlib.Core.List.{List, [], ◌∷◌}
 use mathlib.Core.Bool.{Bool, true, false, not}
 use Prim.Native.Nat.{ℕ}
 use borrow.Author.Rules.{rules}
-use borrow.Author.Tests.{not_true, not-false}
+use borrow.Author.Tests.{not-true, not-false}
 use Rattle.answers.specs.declared.Outcome.{Outcome}
 use Rattle.answers.specs.Table.{row}
 use Rattle.answers.specs.Effect.{tested}
@@ -72,7 +72,7 @@ answered t v o f h =
 returns-2 : tie.Need-returns-2
 returns-2 c =
     let t = c.before.before.before in
-    answered t false c.refused.result (not_turned (from t) (to t) (list t) t.turn.new.0 (gave t false (not_true _ c.before.if2.true)))
+    answered t false c.refused.result (not_turned (from t) (to t) (list t) t.turn.new.0 (gave t false (not-true _ c.before.if2.true)))
     c.refused.ensures
 
 last : (u : tie.Else2) → let t = u.before.before in accepts (from t) (to t) (list t) ≡ same_bytes t.turn.new.0 (to t)
@@ -82,7 +82,7 @@ returns-3 : tie.Need-returns-3
 returns-3 c =
     let m = c.before.before in
     let u = m.before.before in
-    answered u.before.before false c.refused2.result (last u ∙ sym m.same.ensures ∙ not_true _ c.before.if3.true) c.refused2.ensures
+    answered u.before.before false c.refused2.result (last u ∙ sym m.same.ensures ∙ not-true _ c.before.if3.true) c.refused2.ensures
 
 returns-4 : tie.Need-returns-4
 returns-4 c =

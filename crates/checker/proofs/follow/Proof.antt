@@ -5,7 +5,7 @@ use Prim.Native.Nat.{◌≤◌}
 use native.Mathlib.Omega.{arith}
 use lib.ListN.{length, get_or}
 use borrow.Author.Rules.{rules}
-use borrow.Author.Tests.{not_true, not-false}
+use borrow.Author.Tests.{not-true, not-false}
 use Rattle.edits.specs.code.Storing.{Stored}
 use Rattle.edits.proofs.Tests.{stored_applied, bus_stored_applied}
 use Rattle.edit_lists.specs.Lists.{message_for, applied}
@@ -66,7 +66,7 @@ returns c =
     let t = a.before.before.before.before in
     let k = t.before.before.before.before.args in
     let s = k.s.now in
-    follows_refused (first_edit s) (as_remote s) k.p.now a.store-edit.result a.store-edit.new.0 (is-remote t) (edited a) (not_true _ c.if2.true)
+    follows_refused (first_edit s) (as_remote s) k.p.now a.store-edit.result a.store-edit.new.0 (is-remote t) (edited a) (not-true _ c.if2.true)
 
 returns-2 : tie.Need-returns-2
 returns-2 c =
@@ -83,7 +83,7 @@ returns-3 c =
     let k = t.before.before.before.before.before.before.args in
     let s = k.s.now in
     follows_refused (first_edit s) (as_matrix s) k.p.now a.store-bus-edit.result a.store-bus-edit.new.0 (is-matrix t) (bus-edited a)
-    (not_true _ c.if4.true)
+    (not-true _ c.if4.true)
 
 returns-4 : tie.Need-returns-4
 returns-4 c =

@@ -6,7 +6,7 @@ use Prim.Native.Nat.{ℕ, ◌<◌}
 use native.Mathlib.Omega.{arith}
 use lib.ListN.{set}
 use borrow.Author.Rules.{rules}
-use borrow.Author.Tests.{not_true, not-false}
+use borrow.Author.Tests.{not-true, not-false}
 use Rattle.answers.specs.Table.{Row}
 use Rattle.answers.specs.promises.Decides.{Silent}
 use Rattle.fields.specs.Fields.{place_of}
@@ -72,7 +72,7 @@ returns-2 c =
     let s = a.before in
     rw (editing_at (number s) (value s) (place s) (behind s) (patch s) (there s))
     (told_kept (edited s) (patch s) (rows s) (behind s)
-    (not_allowed (place s) (number s) (value s) (sym a.allowed.ensures ∙ not_true _ c.if1.true)))
+    (not_allowed (place s) (number s) (value s) (sym a.allowed.ensures ∙ not-true _ c.if1.true)))
 
 returns-3 : tie.Need-returns-3
 unfolding storing

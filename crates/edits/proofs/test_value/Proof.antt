@@ -1,7 +1,7 @@
 -- The tests in the order of the rows: the first that holds gives the answer.
 use mathlib.Core.Path.{◌≡◌, sym, ap, ◌∙◌}
 use borrow.Author.Rules.{rules}
-use borrow.Author.Tests.{lt-ltb, le-ltb, not_true, not-false}
+use borrow.Author.Tests.{lt-ltb, le-ltb, not-true, not-false}
 use mir.Facts.{to_z-of_z}
 use Rattle.ranges.specs.Ranges.{out_from}
 use Rattle.fields.specs.Fields.{in_range, value_at}
@@ -26,7 +26,7 @@ returns-2 c =
     let i = v.before.before in
     let k = i.before.before.before.before.args in
     let stored = ap (value_at k.place.0) i.before.stored-for.ensures in
-    simp (le-ltb _ _ i.before.before.before.if1.left, judged i ∙ not_true _ v.before.if2.taken)
+    simp (le-ltb _ _ i.before.before.before.if1.left, judged i ∙ not-true _ v.before.if2.taken)
     (rw (c.out_of_range.ensures, to_z-of_z (record { sfits = v.value-at.ok }), v.value-at.ensures, stored))
 
 returns-3 : tie.Need-returns-3

@@ -1,6 +1,6 @@
 -- The loop's invariant: the bytes are the same exactly when none before the one at hand differed and those from it on are.
 use mathlib.Core.Path.{◌≡◌, refl, sym, ap, ◌∙◌}
-use mathlib.Core.Bool.{Bool, and-true, and_false, ◌&&◌}
+use mathlib.Core.Bool.{Bool, and-true, and-false, ◌&&◌}
 use Prim.Native.Nat.{◌≤◌, ◌-◌}
 use native.Mathlib.Omega.{arith}
 use lib.ListN.{length, drop}
@@ -23,7 +23,7 @@ loop-again c =
     let l = c.before.before.before.before in
     let k = l.before.before.args in
     let stop = same_stop k.a.now k.b.now l.loop.i l.loop.invariant.0 (omega arith) c.if2.true in
-    (omega arith, omega arith, l.loop.invariant.2 ∙ rw (stop, and_false))
+    (omega arith, omega arith, l.loop.invariant.2 ∙ rw (stop, and-false))
 
 loop-again-2 : tie.Need-loop-preserved-2 invariant-loop decreases-loop
 loop-again-2 c =

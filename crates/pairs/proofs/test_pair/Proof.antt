@@ -3,7 +3,7 @@ use mathlib.Core.Path.{sym, ◌∙◌}
 use native.Mathlib.Omega.{arith}
 use lib.Seq.{length-take-le}
 use borrow.Author.Rules.{rules}
-use borrow.Author.Tests.{not_true, not-false}
+use borrow.Author.Tests.{not-true, not-false}
 use Rattle.answers.proofs.Effects.{passed}
 use Rattle.answers.specs.promises.Decides.{Silent}
 use Rattle.patch.specs.Patch.{patch_rows}
@@ -55,7 +55,7 @@ returns-3 c =
     let e = s.before.before.before in
     let f = e.before.before.before in
     let k = f.before.before.before.before.before.args in
-    let names = sym s.same.ensures ∙ not_true _ c.before.if3.true in
+    let names = sym s.same.ensures ∙ not-true _ c.before.if3.true in
     rw (by_names k.a.now k.b.now (from-silent f) (to-silent e), names) c.refused.ensures
 
 returns-4 : tie.Need-returns-4

@@ -1,7 +1,7 @@
 -- Where the pass says that every byte lies in its range, none is out of range. Else the loop's invariant: the lowest place out of range is
 -- that of the bytes from the one at hand on.
 use Rattle.std.proofs.Common.{◌≡◌, ◌-◌, ◌≤◌, drop, sym, refl, ◌∙◌, arith, to_z-of_z, rules}
-use borrow.Author.Tests.{not_true, not-false}
+use borrow.Author.Tests.{not-true, not-false}
 use Rattle.fields.specs.Fields.{fields}
 use Rattle.ranges.specs.Ranges.{out_from}
 use Rattle.ranges.proofs.Steps.{byte_in, byte_out, bytes_done}
@@ -22,7 +22,7 @@ returns-2 : tie.Need-returns-2 invariant-loop decreases-loop
 returns-2 c =
     let v = c.before in
     let l = v.before.before.before.before.before in
-    let out = sym v.before.before.in-range.ensures ∙ not_true _ v.before.if2.true in
+    let out = sym v.before.before.in-range.ensures ∙ not-true _ v.before.if2.true in
     let here = l.loop.invariant.1 ∙ byte_out fields l.before.before.before.before.args.p.now l.loop.k (omega arith) out in
     rw (c.out_of_range.ensures, to_z-of_z (record { sfits = v.value-at.type-inv }), v.value-at.ensures, here)
 

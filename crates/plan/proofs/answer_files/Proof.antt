@@ -2,7 +2,7 @@
 use mathlib.Core.Path.{◌≡◌, sym, ap, ◌∙◌}
 use mathlib.Core.Bool.{Bool, true, false}
 use borrow.Author.Rules.{rules}
-use borrow.Author.Tests.{not_true, not-false}
+use borrow.Author.Tests.{not-true, not-false}
 use Rattle.text.specs.Text.{ascii}
 use Rattle.text.proofs.Puts.{puts_then}
 use Rattle.plan.specs.Files.{found_in}
@@ -28,7 +28,7 @@ returns c =
     let f = t.before.before in
     let k = f.before.before.before.before.args in
     let text = puts_then w.put.ensures p.put-found.ensures in
-    rw (first_fails k.lines k.returned.now k.lent.now (first-is t.before false (not_true _ t.if1.true)))
+    rw (first_fails k.lines k.returned.now k.lent.now (first-is t.before false (not-true _ t.if1.true)))
     (says_told (rw f.find-patch.ensures at text))
 
 returns-2 : tie.Need-returns-2
@@ -42,7 +42,7 @@ returns-2 c =
     let k = e.before.before.before.before.before.before.args in
     let text = puts_then w.put2.ensures p.put-found2.ensures in
     rw (second_fails k.lines k.returned.now k.lent.now (first-is e.before true (not-false _ e.if1.false))
-    (second_is t.before false (not_true _ t.if2.true)))
+    (second_is t.before false (not-true _ t.if2.true)))
     (says_told (rw f.find-patch2.ensures at text))
 
 returns-3 : tie.Need-returns-3

@@ -5,7 +5,7 @@ use mathlib.Core.List.{List}
 use Prim.Native.Nat.{ℕ}
 use lib.ListN.{length}
 use borrow.Author.Rules.{rules}
-use borrow.Author.Tests.{not_true, not-false}
+use borrow.Author.Tests.{not-true, not-false}
 use Rattle.streams.specs.Stream.{between}
 use Rattle.plan.specs.declared.Found.TheVariants.{One, Outside}
 use Rattle.plan.specs.Files.{is_patch_dump, only_real_time, found_in}
@@ -29,7 +29,7 @@ returns-3 c =
     let w = m.before.before in
     let e = w.before in
     sym (first_told e.before.before.args.s.now e.if1.false w.walk.result w.walk.ensures m.if2.false
-    (sym d.is-patch-dump.ensures ∙ not_true _ c.if3.true))
+    (sym d.is-patch-dump.ensures ∙ not-true _ c.if3.true))
 
 -- Behind a first message that is an accepted patch dump.
 abbrev first : tie.Else3 → tie.After-walk
@@ -64,13 +64,13 @@ returns-5 : tie.Need-returns-5
 returns-5 c =
     let g = c.before.before.before.before.before in
     sym (alone c.before.before false (only_real_time (between (file g) (first g).walk.result.end (length (file g))))
-    (sym c.before.only-real-time.ensures ∙ not_true _ c.if5.true) refl)
+    (sym c.before.only-real-time.ensures ∙ not-true _ c.if5.true) refl)
 
 returns-6 : tie.Need-returns-6
 returns-6 c =
     let e = c.before.before in
     sym (alone e.before.before true false (sym e.before.only-real-time.ensures ∙ not-false _ e.if5.false)
-    (sym c.before.only-real-time2.ensures ∙ not_true _ c.if6.true))
+    (sym c.before.only-real-time2.ensures ∙ not-true _ c.if6.true))
 
 returns-7 : tie.Need-returns-7
 returns-7 c =

@@ -1,6 +1,6 @@
 -- The loop's invariant: the lowest place out of range is that of the bytes from the one at hand on.
 use Rattle.std.proofs.Common.{◌≡◌, ◌-◌, ◌≤◌, length, drop, sym, refl, ◌∙◌, arith, to_z-of_z, rules}
-use borrow.Author.Tests.{not_true, not-false}
+use borrow.Author.Tests.{not-true, not-false}
 use Rattle.ranges.specs.Ranges.{out_from}
 use Rattle.ranges.proofs.Steps.{byte_in, byte_out, bytes_done}
 use Rattle.ranges.proofs.first_out.Statement.{statement}
@@ -17,7 +17,7 @@ returns c =
     let v = c.before in
     let l = v.before.before.before.before.before in
     let a = l.before.before.args in
-    let out = sym v.before.before.in_row.ensures ∙ not_true _ v.before.if1.true in
+    let out = sym v.before.before.in_row.ensures ∙ not-true _ v.before.if1.true in
     let here = l.loop.invariant.1 ∙ byte_out a.table.now a.bytes.now l.loop.k (omega arith) out in
     rw (c.out_of_range.ensures, to_z-of_z (record { sfits = v.value_in.type-inv }), v.value_in.ensures, here)
 

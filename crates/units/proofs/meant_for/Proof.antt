@@ -1,10 +1,10 @@
 -- `meant_for`: out of a group, for any unit of it, or by the unit's own number.
-use borrow.Author.Tests.{ne_eqb, not_true, not-false}
+use borrow.Author.Tests.{ne_eqb, not-true, not-false}
 use Rattle.units.proofs.meant_for.Statement.{statement}
 use Rattle.units.proofs.meant_for.Tie as tie
 
 alone : tie.Need-returns
-alone c = let u = c.before.before.args.unit in rw (not_true u.grouped c.if1.true)
+alone c = let u = c.before.before.args.unit in rw (not-true u.grouped c.if1.true)
 
 any : tie.Need-returns-2
 any c = let u = c.before.before.before.args.unit in rw (not-false u.grouped c.before.if1.false, c.if2.true)
