@@ -1,4 +1,6 @@
 // The register's numbers, and the answer of a routine, with a place or without one.
+#![tactic(auto)]
+
 ghost use Rattle.std.specs.Prelude.{◌≡◌};
 ghost use Rattle.answers.specs.Table.{outcome, outcome_at};
 ghost use Rattle.answers.specs.Effect.{no_place};

@@ -1,5 +1,7 @@
 // Reading straight from the cable: a reader that is fed what has arrived so far. Its record goes in by value and comes back with what the
 // call tells; `exports` has the same with the record lent.
+#![tactic(auto)]
+
 pub mod room;
 
 ghost use Rattle.std.specs.Prelude.{◌≡◌, true, false, [], ◌+◌, ◌≤◌, ltb, length};

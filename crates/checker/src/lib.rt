@@ -1,4 +1,6 @@
 // The checker: accepts a right list of edits, whoever made it. It goes through the list once, on a patch of its own.
+#![tactic(auto)]
+
 ghost use Rattle.std.specs.Prelude.{◌≡◌, [], ◌∷◌, ◌+◌, ◌-◌, ◌*◌, ◌≤◌, length, take, drop};
 ghost use Rattle.fields.specs.Fields.{size};
 ghost use Rattle.messages.specs.Layout.{message_of};

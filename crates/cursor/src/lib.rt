@@ -1,6 +1,8 @@
 // Nothing but the input and its place: a struct that holds both, with thin functions over the walk and over reading a record.
 // Each takes the struct apart and calls the routine on the slice and the number. `report_from` and `read_from` have plain
 // parameters: whoever calls them needs no struct.
+#![tactic(auto)]
+
 ghost use Rattle.std.specs.Prelude.{◌≡◌};
 ghost use Rattle.answers.specs.Effect.{Gives};
 ghost use Rattle.reading.specs.code.Told.{walked, reads};

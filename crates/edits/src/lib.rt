@@ -1,4 +1,6 @@
 // The two edits: their tests, which reading, writing and applying share, and applying one to a lent patch.
+#![tactic(auto)]
+
 ghost use Rattle.std.specs.Prelude.{◌≡◌, ◌≤◌};
 ghost use Rattle.answers.specs.Effect.{Gives, tested};
 ghost use Rattle.edits.specs.Edits.{extended, stored_for, edit_rows, byte_rows, bus_rows, applying, applying_bus};

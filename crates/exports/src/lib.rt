@@ -2,6 +2,8 @@
 // both edits, all writers, the bank, a unit's step, and the planner with its checker, each the routine itself with its own contract. A
 // slice passes as a pointer and a length; a struct goes by value, laid out as C lays it out. A reader's record is held by the caller and
 // lent.
+#![tactic(auto)]
+
 ghost use Rattle.std.specs.Prelude.{◌≡◌, [], ◌∷◌};
 ghost use Rattle.answers.specs.Effect.{Gives, tested};
 ghost use Rattle.edits.specs.Edits.{applying, applying_bus};

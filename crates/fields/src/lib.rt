@@ -1,4 +1,6 @@
 // The 134 bytes of a patch as document 01 lists them: byte place, parameter number, least and greatest value, and the lookups over them.
+#![tactic(auto)]
+
 pub mod columns;
 mod rows;
 

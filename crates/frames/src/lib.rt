@@ -1,4 +1,6 @@
 // Finding system exclusive messages in a stream of bytes: where one starts, how far it runs, its bytes past real time.
+#![tactic(auto)]
+
 ghost use Rattle.std.specs.Prelude.{◌≡◌, ◌+◌, ◌≤◌, false, length, if◌then◌else◌, nat_eq};
 ghost use Rattle.frames.specs.code.Extent.{ahead, start_at, span_of, past_real_time};
 ghost use Rattle.frames.specs.code.Blocks.{None, Ahead, Ends, Onward, heard_among};

@@ -1,4 +1,6 @@
 // What a message comes to.
+#![tactic(auto)]
+
 pub mod content;
 pub mod dumps;
 pub mod shorts;

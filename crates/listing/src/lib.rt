@@ -1,6 +1,8 @@
 // The listing of an input, made piece by piece into lent room: a header, a line for each message with its start, end, answer, detail,
 // value and noise, and a line with how many messages there are; or `input too long` alone. Begin with `Left::Whole` and write each piece, until
 // nothing is left.
+#![tactic(auto)]
+
 ghost use Rattle.std.specs.Prelude.{◌*◌, ◌≤◌, length};
 ghost use Rattle.io.specs.Counts.{IsPrefixLen};
 ghost use Rattle.text.specs.Text.{Puts};

@@ -1,2 +1,4 @@
 // The kinds of message that the desk files.
+#![tactic(auto)]
+
 pub mod kinds;

@@ -1,4 +1,6 @@
 // A patch's name: its bytes 0-7, shown and set as eight characters of 32..95.
+#![tactic(auto)]
+
 ghost use Rattle.std.specs.Prelude.{◌≡◌, ◌++◌, map, ◌≤◌, length, drop};
 ghost use Rattle.answers.specs.Effect.{Gives};
 ghost use Rattle.names.specs.Names.{shown, stored, any_outside, naming, showing};

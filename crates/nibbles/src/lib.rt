@@ -1,4 +1,6 @@
 // Nibbles, packed bytes and the checksum, over any length: shared by every kind of dump.
+#![tactic(auto)]
+
 ghost use Rattle.std.specs.Prelude.{◌≡◌, ◌*◌, ◌/◌, ◌≤◌, true, ◌++◌, length, drop};
 ghost use Rattle.std.proofs.Math.Option.{none};
 ghost use Rattle.answers.specs.Effect.{Gives};

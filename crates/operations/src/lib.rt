@@ -1,4 +1,6 @@
 // The bytes behind the opcode of the five operations, by source document 000: how many each has, and which values they may have.
+#![tactic(auto)]
+
 ghost use Rattle.std.specs.Prelude.{◌≡◌, [], ◌∷◌, get_or};
 ghost use Rattle.operations.specs.Operations.{aRequest, aGroup, aStore, bytes_of, allowed as allowedFor};
 

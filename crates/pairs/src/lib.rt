@@ -1,4 +1,6 @@
 // Two patches of which one is to be turned into the other: their tests; and whether bytes are the same.
+#![tactic(auto)]
+
 ghost use Rattle.std.specs.Prelude.{◌≡◌};
 ghost use Rattle.answers.specs.Effect.{tested};
 ghost use Rattle.pairs.specs.Pairs.{same_bytes, pair_rows};

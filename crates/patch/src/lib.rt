@@ -1,5 +1,7 @@
 // The tests of a patch: 7, then 11 with the lowest place and the value found there, then 12 with the lowest bus; and the value of a
 // parameter in one.
+#![tactic(auto)]
+
 ghost use Rattle.std.specs.Prelude.{◌≡◌, true, [], ◌∷◌, length};
 ghost use Rattle.std.proofs.Math.Option.{none};
 ghost use Rattle.answers.specs.Effect.{tested};

@@ -1,5 +1,7 @@
 // What the program `plan` writes: for the standard output the shortest list of edits that turns the returned patch into the lent one, as bytes
 // or as lines, and for the standard error `done`; or nothing and why there is no list.
+#![tactic(auto)]
+
 ghost use Rattle.std.specs.Prelude.{◌≡◌, ◌≤◌, ◌<◌, length, get_or, replicate};
 ghost use Rattle.answers.specs.Effect.{tested};
 ghost use Rattle.streams.specs.Stream.{between};

@@ -1,4 +1,6 @@
 // The planner: the shortest list of edits that turns one patch into another, into a lent output.
+#![tactic(auto)]
+
 ghost use Rattle.std.specs.Prelude.{◌≡◌, ◌≤◌, length};
 ghost use Rattle.answers.specs.Effect.{Gives, at_start};
 ghost use Rattle.fields.specs.Fields.{size};

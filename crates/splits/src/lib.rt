@@ -1,5 +1,7 @@
 // The 18 bytes of a split as source document 003 lists them in its Appendix D: byte place, parameter number, least and greatest value; and
 // their test.
+#![tactic(auto)]
+
 ghost use Rattle.std.specs.Prelude.{◌≡◌};
 ghost use Rattle.answers.specs.Effect.{tested};
 ghost use Rattle.splits.specs.Splits.{split_rows};

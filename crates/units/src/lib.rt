@@ -1,4 +1,6 @@
 // A unit that follows the operations that it is sent: its bank, its bank lock, group mode and its number in the group.
+#![tactic(auto)]
+
 ghost use Rattle.std.specs.Prelude.{◌≡◌};
 ghost use Rattle.units.specs.Units.{in_bank, unlocked, in_group, meant_for, stays, joined, obeyed, by_operands, by_kind};
 ghost use Rattle.units.specs.code.Steps.{told, steps};

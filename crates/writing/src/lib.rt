@@ -1,4 +1,6 @@
 // Messages into a lent output: a writer refuses and keeps every byte, or writes at the output's start and keeps the bytes behind.
+#![tactic(auto)]
+
 ghost use Rattle.std.specs.Prelude.{◌≡◌, [], ◌∷◌, ◌++◌, ◌+◌, ◌*◌, ◌/◌, ◌≤◌, T, length, drop};
 ghost use Rattle.answers.specs.Effect.{Gives, tested, at_start};
 ghost use Rattle.fields.specs.Fields.{size};
