@@ -1,0 +1,14 @@
+-- `first_wide` gives the index of the first byte above 15. The invariant: the search over the whole is the search from the byte at hand on.
+use Rattle.std.proofs.Common.{◌≡◌, ◌-◌, ◌≤◌, length, drop, sym, refl, ap, ◌∙◌, arith, drop-cons, rules}
+use mathlib.Core.Option.{some}
+use Rattle.nibbles.specs.Nibbles.{wide_from, first_wide}
+use Rattle.ranges.specs.code.Found.{found_at}
+use Rattle.nibbles.proofs.Laws.{wide_here}
+use Rattle.nibbles.proofs.Passing.{wide_passed, wide_end}
+use Rattle.nibbles.proofs.first_wide.Given as goal
+
+abbrev pub invariant-loop-i : goal.invariant-loop-i
+invariant-loop-i l = (l.i ≤ length l.sent) × (first_wide l.sent ≡ wide_from l.i (drop l.i l.sent))
+
+abbrev pub decreases-loop-i : goal.decreases-loop-i
+decreases-loop-i l = length l.sent - l.i
