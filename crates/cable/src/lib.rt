@@ -32,7 +32,7 @@ pub const ROOM: usize = MasterParameters::LENGTH;
 // start, and the real time in it so far. After a dump's report, until the next call that is done: its packed bytes, and their count. Else
 // zeros. The bytes taken so far; whether the end was declared.
 #[repr(C)]
-#[derive(Drop)]
+#[derive(Clone, Copy)]
 pub struct Cable {
     pub bytes: [u8; ROOM],
     pub inside: bool,
@@ -46,7 +46,7 @@ pub struct Cable {
 // What a call tells: how many bytes it took, whether a message ended with it, and that message's report with the bytes that come with
 // its answer. Where none ended, all zero; with 1 the bytes taken so far as start and end, with 21 no more than that number.
 #[repr(C)]
-#[derive(Drop)]
+#[derive(Clone, Copy)]
 pub struct Fed {
     pub reading: Reading,
     pub taken: usize,
@@ -54,14 +54,14 @@ pub struct Fed {
 }
 
 // The record behind a call, and what it tells.
-#[derive(Drop)]
+#[derive(Clone, Copy)]
 pub struct Step {
     pub state: Cable,
     pub fed: Fed,
 }
 
 // A record beside its room.
-#[derive(Drop)]
+#[derive(Clone, Copy)]
 struct Held {
     inside: bool,
     over: bool,
@@ -72,7 +72,7 @@ struct Held {
 }
 
 // The same behind a call, and what the call tells.
-#[derive(Drop)]
+#[derive(Clone, Copy)]
 struct Turn {
     held: Held,
     fed: Fed,

@@ -11,7 +11,7 @@ use reading::recording::Reading;
 use reading::walking::Report;
 
 // An input, and a place of it.
-#[derive(Drop)]
+#[derive(Clone, Copy)]
 pub struct Cursor<'a> {
     pub input: &'a [u8],
     pub place: usize,

@@ -15,7 +15,7 @@ use answers::{NOT_ALLOWED, Outcome};
 
 // A row: a byte place, its parameter number, its least and its greatest value. Values are bytes as stored: a least value above the
 // greatest is that of a signed field, 0xC0 for -64, 0xE0 for -32.
-#[derive(Drop)]
+#[derive(Clone, Copy)]
 pub struct Field(pub u8, pub u8, pub u8, pub u8);
 
 // How many bytes a patch has, each with its place.
@@ -48,20 +48,20 @@ pub const AMOUNT_AT: usize = R105.0 as usize;
 pub const DESTINATION_AT: usize = R106.0 as usize;
 
 // The listing's first column: which of the 134 bytes.
-#[derive(Drop)]
+#[derive(Clone, Copy)]
 pub struct BytePlace(pub u8);
 
 // The listing's second column: the number that a remote edit names.
-#[derive(Drop)]
+#[derive(Clone, Copy)]
 pub struct Parameter(pub u8);
 
-#[derive(Drop)]
+#[derive(Clone, Copy)]
 pub enum FoundPlace {
     At(BytePlace),
     Nothing,
 }
 
-#[derive(Drop)]
+#[derive(Clone, Copy)]
 pub enum FoundParameter {
     Of(Parameter),
     Nothing,
@@ -143,7 +143,7 @@ pub fn value_at(place: BytePlace, b: u8) -> i16
 
 // What is told of a parameter's range: an outcome, and the least and greatest value; both 0 when refused.
 #[repr(C)]
-#[derive(Drop)]
+#[derive(Clone, Copy)]
 pub struct Range {
     pub outcome: Outcome,
     pub least: i16,

@@ -14,7 +14,7 @@ pub const END: u8 = 0xF7;
 
 // What stands behind an F0H: how many bytes before the first in 80H..F7H, how many of them are real time,
 // and the answer that their end gives: DONE for F7H, INTERRUPTED or CUT.
-#[derive(Drop)]
+#[derive(Clone, Copy)]
 pub struct Span {
     pub length: usize,
     pub noise: usize,
@@ -167,7 +167,7 @@ fn block_noise(bytes: &[u8], at: usize) -> u8
 }
 
 // Bytes that were passed over, and how many of them are real time.
-#[derive(Drop)]
+#[derive(Clone, Copy)]
 struct Passed {
     length: usize,
     noise: usize,

@@ -24,14 +24,14 @@ use messages::kinds::{DEVICE, Kind, MAKER, kind_of, packed_size};
 
 // An outcome, and the bytes that come with it: the number of a patch or a split, or those of an edit or an operation; zero where there are
 // none.
-#[derive(Drop)]
+#[derive(Clone, Copy)]
 pub struct Judged {
     pub outcome: Outcome,
     pub bytes: [u8; 4],
 }
 
 // How far a message runs, and what it comes to.
-#[derive(Drop)]
+#[derive(Clone, Copy)]
 pub struct Heard {
     pub span: Span,
     pub judged: Judged,

@@ -21,7 +21,7 @@ pub const MOST: usize = 65536;
 pub const LEAST_ROOM: usize = reading::listing::MOST * (WIDTH * 21 + 1);
 
 // What is left of a listing: the whole; what follows from a place on, behind the lines of so many messages; nothing.
-#[derive(Drop)]
+#[derive(Clone, Copy)]
 pub enum Left {
     Whole,
     From(usize, usize),
@@ -29,7 +29,7 @@ pub enum Left {
 }
 
 // How long the piece at the room's start is, and what is left behind it.
-#[derive(Drop)]
+#[derive(Clone, Copy)]
 pub struct Piece {
     pub len: usize,
     pub left: Left,

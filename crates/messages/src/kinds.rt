@@ -11,7 +11,7 @@ pub const MAKER: u8 = 0x10;
 pub const DEVICE: u8 = 0x06;
 
 // Single patch: number, 268 nibbles, sum.
-#[derive(Drop)]
+#[derive(Clone, Copy)]
 pub struct SinglePatch;
 
 impl SinglePatch {
@@ -21,7 +21,7 @@ impl SinglePatch {
 }
 
 // Split patch: number, 36 nibbles, sum.
-#[derive(Drop)]
+#[derive(Clone, Copy)]
 pub struct SplitPatch;
 
 impl SplitPatch {
@@ -31,7 +31,7 @@ impl SplitPatch {
 }
 
 // Master parameters: version, 344 nibbles, sum.
-#[derive(Drop)]
+#[derive(Clone, Copy)]
 pub struct MasterParameters;
 
 impl MasterParameters {
@@ -43,7 +43,7 @@ impl MasterParameters {
 }
 
 // Request data: type, number.
-#[derive(Drop)]
+#[derive(Clone, Copy)]
 pub struct RequestData;
 
 impl RequestData {
@@ -53,7 +53,7 @@ impl RequestData {
 }
 
 // Remote edit: parameter, value.
-#[derive(Drop)]
+#[derive(Clone, Copy)]
 pub struct RemoteEdit;
 
 impl RemoteEdit {
@@ -63,7 +63,7 @@ impl RemoteEdit {
 }
 
 // Set group mode: total, ID.
-#[derive(Drop)]
+#[derive(Clone, Copy)]
 pub struct GroupMode;
 
 impl GroupMode {
@@ -73,7 +73,7 @@ impl GroupMode {
 }
 
 // Set bank: bank.
-#[derive(Drop)]
+#[derive(Clone, Copy)]
 pub struct SetBank;
 
 impl SetBank {
@@ -83,7 +83,7 @@ impl SetBank {
 }
 
 // Matrix modulation edit: bus, source, amount, destination.
-#[derive(Drop)]
+#[derive(Clone, Copy)]
 pub struct BusEdit;
 
 impl BusEdit {
@@ -93,7 +93,7 @@ impl BusEdit {
 }
 
 // Unlock bank.
-#[derive(Drop)]
+#[derive(Clone, Copy)]
 pub struct UnlockBank;
 
 impl UnlockBank {
@@ -103,7 +103,7 @@ impl UnlockBank {
 }
 
 // Single patch to the edit buffer: zero, 268 nibbles, sum.
-#[derive(Drop)]
+#[derive(Clone, Copy)]
 pub struct EditBuffer;
 
 impl EditBuffer {
@@ -113,7 +113,7 @@ impl EditBuffer {
 }
 
 // Store edit buffer: number, bank, ID.
-#[derive(Drop)]
+#[derive(Clone, Copy)]
 pub struct StoreEditBuffer;
 
 impl StoreEditBuffer {
@@ -130,14 +130,14 @@ pub const SPLIT: usize = splits::SIZE;
 pub const MASTER: usize = 172;
 
 // The byte behind a dump's opcode: a number up to a greatest, which comes with the answer; or always the same byte, which does not.
-#[derive(Drop)]
+#[derive(Clone, Copy)]
 pub enum Behind {
     NumberTo(u8),
     Always(u8),
 }
 
 // The packed bytes of a dump: a patch or a split, which have their own tests, or so many bytes of any value.
-#[derive(Drop)]
+#[derive(Clone, Copy)]
 pub enum Packed {
     Patch,
     Split,
@@ -145,7 +145,7 @@ pub enum Packed {
 }
 
 // A dump's kind.
-#[derive(Drop)]
+#[derive(Clone, Copy)]
 pub struct Dump {
     pub opcode: u8,
     pub length: usize,
@@ -154,7 +154,7 @@ pub struct Dump {
 }
 
 // The bytes behind a short message's opcode, with their own tests: an edit's two, a bus edit's four, or those of an operation.
-#[derive(Drop)]
+#[derive(Clone, Copy)]
 pub enum Operands {
     Edit,
     BusEdit,
@@ -162,14 +162,14 @@ pub enum Operands {
 }
 
 // A short message's kind.
-#[derive(Drop)]
+#[derive(Clone, Copy)]
 pub struct Short {
     pub opcode: u8,
     pub length: usize,
     pub operands: Operands,
 }
 
-#[derive(Drop)]
+#[derive(Clone, Copy)]
 pub enum Kind {
     Dump(Dump),
     Short(Short),

@@ -10,7 +10,7 @@ use answers::{DONE, NO_ROOM, NOT_ALLOWED, Outcome, WRONG_LENGTH};
 use fields::NAME_SIZE;
 
 // Which way a name goes: a text to be stored in a patch, or a patch's bytes to be shown.
-#[derive(Drop)]
+#[derive(Clone, Copy)]
 enum Way {
     Stored,
     Shown,

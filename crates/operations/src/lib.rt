@@ -5,7 +5,7 @@ ghost use Rattle.std.specs.Prelude.{◌≡◌, [], ◌∷◌, get_or};
 ghost use Rattle.operations.specs.Operations.{aRequest, aGroup, aStore, bytes_of, allowed as allowedFor};
 
 // Request data, set group mode, set bank, unlock bank, store edit buffer.
-#[derive(Drop)]
+#[derive(Clone, Copy)]
 pub enum Operation {
     Request,
     Group,

@@ -184,7 +184,7 @@ pub fn test(p: &[u8]) -> Outcome
 
 // What a parameter has in a patch: an outcome, and the value; 0 when refused.
 #[repr(C)]
-#[derive(Drop)]
+#[derive(Clone, Copy)]
 pub struct Held {
     pub outcome: Outcome,
     pub value: i16,

@@ -37,7 +37,7 @@ const LONGEST: usize = 762;
 const WANTS_LINES: u8 = 1;
 
 // What a file comes to: its one accepted patch dump, or what else was found.
-#[derive(Drop)]
+#[derive(Clone, Copy)]
 pub enum Found {
     One,
     TooLong,
@@ -47,7 +47,7 @@ pub enum Found {
 }
 
 // What stands in a room: up to `out` what goes to the standard output, from there to `end` what goes to the standard error.
-#[derive(Drop)]
+#[derive(Clone, Copy)]
 pub struct Written {
     pub out: usize,
     pub end: usize,

@@ -12,7 +12,7 @@ ghost use Rattle.ranges.specs.code.Passes.{all_in};
 use answers::{Outcome, WRONG_LENGTH};
 
 // The lowest index or bus at which a test fails.
-#[derive(Drop)]
+#[derive(Clone, Copy)]
 pub enum Failed {
     At(usize),
     Nowhere,

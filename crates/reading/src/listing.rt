@@ -9,7 +9,7 @@ use crate::walking::{Report, report_of};
 
 // How many reports were made, and the place from which to go on.
 #[repr(C)]
-#[derive(Drop)]
+#[derive(Clone, Copy)]
 pub struct Listed {
     pub count: usize,
     pub next: usize,

@@ -8,7 +8,7 @@ use crate::walking::{Report, no_message, report_of};
 // A report, and the bytes that come with its answer: the number of a patch or a split, or those of an edit or an operation, as received; zero
 // where the message has none and with every answer but 0.
 #[repr(C)]
-#[derive(Drop)]
+#[derive(Clone, Copy)]
 pub struct Reading {
     pub report: Report,
     pub bytes: [u8; 4],

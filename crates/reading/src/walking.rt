@@ -8,7 +8,7 @@ use judging::Heard;
 
 // Where a message starts and ends, its outcome, and how many bytes between the two are real time.
 #[repr(C)]
-#[derive(Drop)]
+#[derive(Clone, Copy)]
 pub struct Report {
     pub start: usize,
     pub end: usize,

@@ -14,7 +14,7 @@ use reading::walking::Report;
 
 // What a unit keeps. Its number counts while it is in group mode.
 #[repr(C)]
-#[derive(Drop)]
+#[derive(Clone, Copy)]
 pub struct Unit {
     pub bank: u8,
     pub locked: bool,
@@ -28,7 +28,7 @@ const SENT: usize = GroupMode::LENGTH;
 // What a message does: its report, the unit after it, whether it is a store message that is meant for this unit, and the message that is
 // sent on with the count of its bytes, zeros where there is none.
 #[repr(C)]
-#[derive(Drop)]
+#[derive(Clone, Copy)]
 pub struct Step {
     pub report: Report,
     pub unit: Unit,

@@ -28,7 +28,7 @@ const BANK: usize = 100 * PATCH;
 
 // What a bank comes to: an outcome, and as place the number of the patch that is refused, 0 with other answers.
 #[repr(C)]
-#[derive(Drop)]
+#[derive(Clone, Copy)]
 pub struct BankOutcome {
     pub outcome: Outcome,
     pub place: usize,
