@@ -1,0 +1,10 @@
+-- The flag is set at a source whose bus is half used: where it stays clear, no bus passed is.
+use Rattle.std.proofs.Common.{◌≡◌, ◌-◌, ◌≤◌, sym, ◌∙◌, arith, rules, eqb-true}
+use Rattle.patch.proofs.Passes.{Whole, whole_more, all_whole}
+use Rattle.patch.proofs.buses_whole.Given as goal
+
+abbrev pub invariant-loop-j : goal.invariant-loop-j
+invariant-loop-j l = (l.j ≤ 28) × (l.half ≡ 0 → Whole l.j l.p)
+
+abbrev pub decreases-loop-j : goal.decreases-loop-j
+decreases-loop-j l = 28 - l.j

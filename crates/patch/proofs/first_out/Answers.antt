@@ -1,0 +1,25 @@
+use Rattle.std.proofs.Common.{◌≡◌, ◌-◌, ◌≤◌, drop, sym, refl, ◌∙◌, arith, to_z-of_z, rules}
+use borrow.Author.Tests.{not-true, not-false}
+use Rattle.fields.specs.Fields.{fields}
+use Rattle.ranges.specs.Ranges.{out_from}
+use Rattle.ranges.proofs.Steps.{byte_in, byte_out, bytes_done}
+use Rattle.patch.specs.Patch.{first_out}
+use Rattle.patch.proofs.first_out.Goals as goal
+
+pub returns-then-all_in_range : goal.returns-then-all_in_range
+returns-then-all_in_range c = rw (c.done.ensures, c.all_in_range.ensures c.if-all_in_range.true)
+
+pub returns-then-not-in_range : goal.returns-then-not-in_range
+returns-then-not-in_range c =
+    let out = sym c.in_range.ensures ∙ not-true _ c.if-not-in_range.true-raw in
+    let here = c.loop-k.invariant.1 ∙ byte_out fields c.args.p.now c.loop-k.k (omega arith) out in
+    rw (c.out_of_range.ensures, to_z-of_z (record { sfits = c.value_at.type_inv }), c.value_at.ensures, here)
+
+pub loop-k-preserved : goal.loop-k-preserved
+loop-k-preserved c =
+    let inside = sym c.in_range.ensures ∙ not-false _ c.if-not-in_range.false-raw in
+    (omega arith, c.loop-k.invariant.1 ∙ byte_in fields c.args.p.now c.loop-k.k (omega arith) inside)
+
+pub returns : goal.returns
+returns c =
+    rw (c.done-2.ensures, c.loop-k.invariant.1, bytes_done fields c.args.p.now c.loop-k.k (omega arith))
