@@ -283,6 +283,7 @@ amount_stored c b h f =
   where
     holds : (t : Bool) → T t → t ≡ true
     holds true h = refl
+    holds false h = elim h [ ]
 
 bus_rows_hold : (c : ℕ) (b : List ℕ) → c < 10 → Good b
     → Silent (bus_rows c (get_or b (source_at c) 0) (sent (get_or b (amount_at c) 0)) (get_or b (destination_at c) 0))

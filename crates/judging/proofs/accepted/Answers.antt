@@ -1,0 +1,6 @@
+-- `accepted` is done with the opcode.
+use borrow.Author.Rules.{rules}
+use Rattle.judging.proofs.accepted.Goals as goal
+
+pub returns : goal.returns
+returns c = rw c.done.ensures

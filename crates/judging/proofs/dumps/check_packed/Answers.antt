@@ -1,0 +1,52 @@
+-- `check_packed` checks a patch by its own numbers, and other bytes by their count.
+-- A patch, as it stands.
+use mathlib.Core.Path.{◌≡◌, sym, ◌∙◌}
+use mathlib.Core.List.{List}
+use Prim.Native.Nat.{ℕ, ◌≤◌}
+use native.Mathlib.Omega.{arith}
+use lib.ListN.{length, take, replicate}
+use lib.Seq.{length-take-le}
+use borrow.Author.Rules.{rules}
+use Rattle.messages.specs.declared.kinds.Packed.TheVariants.{Patch as aPatch}
+use Rattle.judging.proofs.Places.{content_whole}
+use Rattle.judging.proofs.dumps.check_packed.Goals.{After-size_of, Then-is_plain_patch}
+use Rattle.judging.proofs.dumps.check_packed.Goals as goal
+
+plain : (c : Then-is_plain_patch) → let a = c.args in (a.packed ≡ aPatch) × (a.count ≡ length a.body.now)
+plain c = c.is_plain_patch.ensures c.if-is_plain_patch.true
+
+long : (c : Then-is_plain_patch) → length c.args.body.now ≡ 273
+long c = sym (plain c).1 ∙ (rw (plain c).0 at c.requires.0.1)
+
+pub returns-then-is_plain_patch : goal.returns-then-is_plain_patch
+returns-then-is_plain_patch c =
+    let s = (goal.at.returns-then-is_plain_patch c).Then-is_plain_patch in
+    let a = c.args in
+    rw (content_whole a.count a.body.now (plain s).1, (plain s).0) c.check_patch.ensures
+
+-- Other bytes, by their count.
+
+small : (c : After-size_of) → c.size_of.result ≤ 172
+small c = rw c.size_of.ensures c.requires.1
+
+abbrev zeros : List ℕ
+zeros = replicate 172 0
+
+room_of : (c : After-size_of) → length (take c.size_of.result zeros) ≡ c.size_of.result
+room_of c = length-take-le c.size_of.result zeros (small c)
+
+pub slice_bounds-check_room-end : goal.slice_bounds-check_room-end
+slice_bounds-check_room-end c = sym (room_of (goal.at.slice_bounds-check_room-end c).After-size_of)
+
+pub check_room-requires : goal.check_room-requires
+check_room-requires c =
+     (c.requires.0, rw (room_of (goal.at.check_room-requires c).After-size_of) c.size_of.ensures)
+
+pub slice_bounds-check_patch-end : goal.slice_bounds-check_patch-end
+slice_bounds-check_patch-end c = omega (arith, long c)
+
+pub bounds-body-272 : goal.bounds-body-272
+bounds-body-272 c = omega (arith, long (goal.at.bounds-body-272 c).Then-is_plain_patch)
+
+pub slice_bounds-room-end-2 : goal.slice_bounds-room-end-2
+slice_bounds-room-end-2 c = omega (arith, small c)

@@ -1,0 +1,6 @@
+-- `refused_by` is refused with detail 0.
+use borrow.Author.Rules.{rules}
+use Rattle.judging.proofs.refused_by.Goals as goal
+
+pub returns : goal.returns
+returns c = rw (c.refused-2.ensures, c.refused.ensures)
