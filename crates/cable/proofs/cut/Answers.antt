@@ -1,0 +1,6 @@
+-- `cut` is the report of the message that is open.
+use borrow.Author.Rules.{rules}
+use Rattle.cable.proofs.cut.Goals as goal
+
+pub returns : goal.returns
+returns c = rw (c.refused.ensures, c.least_of.ensures)

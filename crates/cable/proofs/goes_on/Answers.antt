@@ -1,0 +1,6 @@
+-- `goes_on` is the turn as it stands.
+use borrow.Author.Rules.{rules}
+use Rattle.cable.proofs.goes_on.Goals as goal
+
+pub returns : goal.returns
+returns c = rw c.no_report.ensures
