@@ -1,5 +1,5 @@
 -- `seek` passes over what stands before the first F0H, and then gives, by how the message there ends, what a call gives.
--- Behind the record of the message at the first F0H: the and.args.place the bytes fed, and what stands behind that F0H.
+-- Behind the record of the message at the first F0H: the place and the bytes fed, and what stands behind that F0H.
 use mathlib.Core.Path.{◌≡◌, refl, sym, ap, ◌∙◌}
 use mathlib.Core.List.{List}
 use Prim.Native.Nat.{ℕ, ◌+◌, ◌-◌, ◌≤◌}

@@ -45,7 +45,7 @@ turn-requires c =
 
 -- The two patches and the list.
 
--- What turning gave, the.args.a.now patch itself.
+-- What turning gave, from the patch itself.
 
 gave : (t : After-turn) (r : Bool) → t.turn.result ≡ r → Turns (last_patch t.args.list.now t.args.a.now) r t.turn.new.p
 gave t r e =
@@ -66,14 +66,16 @@ returns-then-not-turn c =
     c.refused.ensures
 
 last : (u : Else-not-turn) →
-     accepts u.args.a.now u.args.b.now u.args.list.now ≡ same_bytes u.turn.new.p u.args.b.now
-last u =
-     turned_to u.args.a.now u.args.b.now u.args.list.now u.turn.new.p (gave u.before true (not-false _ u.if-not-turn.false-raw))
+     (h1 : (r : Bool) → u.turn.result ≡ r → Turns (last_patch u.args.list.now u.args.a.now) r u.turn.new.p) → accepts u.args.a.now u.args.b.now u.args.list.now ≡ same_bytes u.turn.new.p u.args.b.now
+last u h1 =
+     turned_to u.args.a.now u.args.b.now u.args.list.now u.turn.new.p (h1 true (not-false _ u.if-not-turn.false-raw))
 
 pub returns-then-not-same : goal.returns-then-not-same
 returns-then-not-same c =
-    answered (goal.at.returns-then-not-same c).After-turn false c.refused-then-not-same.result (last (goal.at.returns-then-not-same c).Else-not-turn ∙ sym c.same.ensures ∙ not-true _ c.if-not-same.true-raw) c.refused-then-not-same.ensures
+    let s = (goal.at.returns-then-not-same c).After-turn in
+    answered s false c.refused-then-not-same.result (last (goal.at.returns-then-not-same c).Else-not-turn (gave s) ∙ sym c.same.ensures ∙ not-true _ c.if-not-same.true-raw) c.refused-then-not-same.ensures
 
 pub returns : goal.returns
 returns c =
-    answered (goal.at.returns c).After-turn true c.done.result (last (goal.at.returns c).Else-not-turn ∙ sym c.same.ensures ∙ not-false _ c.if-not-same.false-raw) c.done.ensures
+    let s = (goal.at.returns c).After-turn in
+    answered s true c.done.result (last (goal.at.returns c).Else-not-turn (gave s) ∙ sym c.same.ensures ∙ not-false _ c.if-not-same.false-raw) c.done.ensures

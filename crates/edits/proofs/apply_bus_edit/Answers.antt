@@ -1,4 +1,4 @@
--- The edit's tests, then the patch's: each refusal leaves the patch, and in a that.args.p.now passes the edit is stored.
+-- The edit's tests, then the patch's: each refusal leaves the patch, and in a patch that passes the edit is stored.
 use mathlib.Core.Path.{sym, ap, ◌∙◌}
 use mathlib.Core.List.{List, [], ◌++◌}
 use Prim.Native.Nat.{ℕ}

@@ -50,7 +50,7 @@ returns-then-buffer-size c =
     record_short (content (goal.at.returns-then-buffer-size c).After-judge_content-j) c.judge_content-j.result c.judge_content-j.ensures (its s) lent c.refused_by.result
     (omega (arith, size (goal.at.returns-then-buffer-size c).After-packed_size-size (its s), c.if-buffer-size.true)) c.refused_by.ensures
 
--- The part of the that.args.buffer.now is lent has room for the packed bytes and no more.
+-- The part of the buffer that is lent has room for the packed bytes and no more.
 
 room : (t : Then-size-gt0) → length (take t.packed_size-size.result t.args.buffer.now) ≡ t.packed_size-size.result
 room t = length-take-le t.packed_size-size.result t.args.buffer.now (omega (arith, t.if-buffer-size.false))

@@ -26,7 +26,7 @@ tests-passed t =
     let allowed = sym t.any_outside.ensures ∙ t.if-any_outside.false in
     naming_fields t.args.p.now t.args.text.now t.if-p-ne-SIZE.false t.if-text-ne-NAME_SIZE.false allowed
 
--- What the is.args.p.now answered is what its fields are: it has 134 bytes.
+-- What the patch is answered is what its fields are: it has 134 bytes.
 
 answered : (t : After-test-before) → t.test-before.result ≡ tested (field_rows t.args.p.now)
 answered t = t.test-before.ensures ∙ fields_tested t.args.p.now t.if-p-ne-SIZE.false

@@ -1,4 +1,4 @@
--- The patch's tests, then the output's room; a that.args.p.now passes has eight characters to show.
+-- The patch's tests, then the output's room; a patch that passes has eight characters to show.
 use mathlib.Core.Path.{◌≡◌, sym}
 use mathlib.Core.List.{List, map}
 use Prim.Native.Nat.{ℕ}
@@ -18,7 +18,7 @@ use Rattle.names.proofs.show_name.Goals as goal
 abbrev bytes : After-test-tested → List ℕ
 bytes t = map shown (take 8 t.args.p.now)
 
--- Where the output's room is tested, the has.args.p.now passed.
+-- Where the output's room is tested, the patch has passed.
 
 silent : (t : After-test-tested) → t.test-tested.result.answer ≡ 0 → Silent (patch_rows t.args.p.now)
 silent t z = passed (patch_rows t.args.p.now) t.test-tested.result (patch_refusals t.args.p.now) t.test-tested.ensures z

@@ -21,7 +21,7 @@ loop-k-init c =
     let whole : n - 0 ≡ n = omega arith in
     (omega arith, rw whole)
 
--- The bank, the number of the patch hand.loop-k.k, the bytes from it on, and how many patches are behind it.
+-- The bank, the number of the patch at hand, the bytes from it on, and how many patches are behind it.
 
 abbrev left : After-test-outcome → List ℕ
 left t = drop (t.loop-k.k * 134) t.args.ps.now
@@ -29,7 +29,7 @@ left t = drop (t.loop-k.k * 134) t.args.ps.now
 abbrev behind : After-test-outcome → ℕ
 behind t = length t.args.ps.now / 134 - (t.loop-k.k + 1)
 
--- What the patch hand.loop-k.k was answered.
+-- What the patch at hand was answered.
 
 answered : (t : After-test-outcome) → t.test-outcome.result ≡ tested (field_rows (take 134 (left t)))
 answered t =

@@ -1,4 +1,4 @@
--- Patch after patch is tested. The invariant: the lowest bad patch of the is.args.ps.now the lowest bad one of those that are left.
+-- Patch after patch is tested. The invariant: the lowest bad patch of the bank is the lowest bad one of those that are left.
 use mathlib.Core.Path.{◌≡◌, ap, sym, ◌∙◌}
 use mathlib.Core.List.{List}
 use mathlib.Core.Option.{none}

@@ -1,4 +1,4 @@
--- The length, every patch and the room are tested in this order, and then the is.args.ps.now written: each return is a case of `writing_bank`.
+-- The length, every patch and the room are tested in this order, and then the bank is written: each return is a case of `writing_bank`.
 use mathlib.Core.Path.{◌≡◌, refl, ap, sym, ◌∙◌}
 use mathlib.Core.List.{List, []}
 use Prim.Native.Nat.{ℕ, ◌*◌, ◌/◌}

@@ -28,7 +28,7 @@ bytes t = dump t.args.kind.opcode t.args.number t.args.p.now
 silent : (t : After-test_dump-tested) → t.test_dump-tested.result.answer ≡ 0 → Silent (rows t)
 silent t z = passed (rows t) t.test_dump-tested.result (dump_given_refusals t.args.kind t.args.number t.args.p.now) t.test_dump-tested.ensures z
 
--- The bytes.args.p.now are as many as the description says, so the dump is as long.
+-- The packed bytes are as many as the description says, so the dump is as long.
 
 size : (t : After-test_dump-tested) → t.test_dump-tested.result.answer ≡ 0 → length (bytes t) ≡ t.args.kind.length
 size t z =

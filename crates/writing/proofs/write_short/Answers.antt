@@ -1,4 +1,4 @@
--- The and.args.bytes.now the room are tested in this order, and then the message is written, part after part: each return is a case of `writing`.
+-- The bytes and the room are tested in this order, and then the message is written, part after part: each return is a case of `writing`.
 use mathlib.Core.Path.{◌≡◌, refl, ap, ◌∙◌}
 use mathlib.Core.List.{List, [], ◌∷◌, ◌++◌}
 use Prim.Native.Nat.{ℕ, ◌+◌, ◌-◌}
@@ -33,7 +33,7 @@ opening t = 0xF0 ∷ 0x10 ∷ 0x06 ∷ t.args.kind.opcode ∷ []
 silent : (t : After-test_operands-tested) → t.test_operands-tested.result.answer ≡ 0 → Silent (rows t)
 silent t z = passed (rows t) t.test_operands-tested.result (given_refusals (ofShort t.args.kind) t.args.bytes.now []) t.test_operands-tested.ensures z
 
--- The are.args.bytes.now as many as the description says, so the message is as long.
+-- The bytes are as many as the description says, so the message is as long.
 
 counted : (t : After-test_operands-tested) → t.test_operands-tested.result.answer ≡ 0 → t.args.kind.length ≡ 5 + length t.args.bytes.now
 counted t z =
