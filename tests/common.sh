@@ -19,19 +19,24 @@ fail() {
     exit 1
 }
 
-# Proves and builds programs; what rt said is in $said. rt takes a program's stamp for the program, so one that is gone loses its stamp.
-# Two rt in one folder would read each other's results, so each waits for the other, as in desk/common.sh.
+# Where rt leaves a program.
+binary() { # CRATE
+    echo "crates/$1/out/$1"
+}
+
+# Proves and builds programs, where something has changed, and runs each: rt builds a program only to run it. It writes what its crate says.
+# A second rt in the same crates waits for the first.
 build_programs() { # CRATE...
-    local crate
+    local crate input
     for crate; do
-        [ -x "target/bin/$crate" ] || rm -f "target/stamp/$crate"
-    done
-    if ! said=$(flock crates.txt rt check "$@" 2>&1); then
-        echo "$said" >&2
-        fail "not proved: $*"
-    fi
-    for crate; do
-        [ -x "target/bin/$crate" ] || fail "rt check made no target/bin/$crate"
+        input=/dev/null
+        [ ! -e "crates/$crate/stdin" ] || input=$PWD/crates/$crate/stdin
+        if ! (cd "crates/$crate" && rt run < "$input" > "$work/ran") 2> "$work/said"; then
+            cat "$work/said" >&2
+            fail "not proved, built and run: $crate"
+        fi
+        [ -x "$(binary "$crate")" ] || fail "rt run made no $(binary "$crate")"
+        same "crates/$crate/stdout" "$work/ran" "$crate's input"
     done
 }
 
@@ -60,5 +65,5 @@ same() { # EXPECTED PRINTED OF-WHAT
 # What a fresh clone has: all but what .gitignore names.
 fresh_copy() { # FOLDER
     mkdir -p "$1"
-    tar -c --exclude=target --exclude=build --exclude=.git . | tar -x -C "$1"
+    tar -c --exclude=target --exclude=build --exclude=out --exclude=.git . | tar -x -C "$1"
 }
