@@ -42,19 +42,23 @@ print() { # FORMAT TEXT WHAT
     fi
 }
 
-binary=$here/target/bin/$program
-stamp=$here/target/stamp/$program # rt writes it once the program is proved, built and has run as it should
+made=$here/crates/$program/out
+binary=$made/$program
+stamp=$binary.stamp # rt writes it once the program is proved and built
 
+# rt's own work in out/ is no part of a crate; it comes and goes, and the crate's folder is newer then.
+changed() { # prints what is newer than the stamp
+    cd "$here" && find crates crates.txt -path 'crates/*/out' -prune -o \( -type f -o -path 'crates/*/*' \) -newer "$stamp" -print -quit
+}
 stale() {
-    [ ! -x "$binary" ] || [ ! -e "$stamp" ] || [ -n "$(find "$here/crates" "$here/crates.txt" -newer "$stamp" -print -quit)" ]
+    [ ! -x "$binary" ] || [ ! -e "$stamp" ] || [ -n "$(changed)" ]
 }
 
-# How many crates the program is made of: each uses only those above it in the list.
+# The crates that the program is made of, bottom up: each uses only those above it in the list.
 crates_needed() {
     tac "$here/crates.txt" | awk -F: -v program="$program" '
         BEGIN { needed[program] }
-        $1 in needed { count++; split($2, uses, " "); for (i in uses) needed[uses[i]] }
-        END { print count + 0 }'
+        $1 in needed { print $1; split($2, uses, " "); for (i in uses) needed[uses[i]] }' | tac
 }
 
 # Ends the builder and all that it has started: they are a session of their own, and what sh starts beside itself ignores Ctrl-C.
@@ -66,28 +70,37 @@ end_build() { # STATUS
 }
 
 build() {
-    local why='the program is not built yet' began count=0 of line said=''
+    local why='the program is not built yet' began of needed line checked=none said=''
+    local -A place=()
     [ ! -x "$binary" ] || [ ! -e "$stamp" ] || why='a crate has changed since the program was built'
     command -v rt > /dev/null || stop "$why, and the Rattle kit that builds it is not here (no rt in PATH)"
-    if ! mkdir -p "$here/target" 2> /dev/null || [ ! -w "$here/target" ]; then
+    if ! mkdir -p "$made" 2> /dev/null || [ ! -w "$made" ]; then
         stop "$why, and you may not write in $here; whoever may, runs ./$name there once"
     fi
     note "$why: proving and building it takes up to about $takes"
-    of=$(crates_needed)
-    [ -x "$binary" ] || rm -f "$stamp" # rt asks the stamp alone whether there is anything to do
+    while read -r needed; do
+        place[$needed]=$((${#place[@]} + 1))
+    done < <(crates_needed)
+    of=${#place[@]}
     began=$(date +%s.%N)
     trap 'end_build 129' HUP
     trap 'end_build 130' INT
     trap 'end_build 143' TERM
-    exec {builder}< <(cd "$here" && exec setsid flock crates.txt rt check "$program" < /dev/null 2>&1)
+    # rt builds a program only to run it: on its crate's own input, of which it is to print what its crate says.
+    # shellcheck disable=SC2016
+    exec {builder}< <(cd "$here/crates/$program" && exec setsid flock ../../crates.txt \
+        sh -c 'rt run < stdin 2>&1 > out/printed && cmp out/printed stdout' < /dev/null 2>&1)
     while IFS= read -r line <&"$builder"; do
         said+=$line$'\n'
-        if [[ $line =~ ^rt:\ ([a-z0-9_]+)\ proved\ \((.*)\)$ ]]; then
-            count=$((count + 1))
-            note "$count of $of: ${BASH_REMATCH[1]} proved (${BASH_REMATCH[2]})"
+        # rt names a crate that it has checked, and behind it says whether it is proved; of one that was proved before it says nothing.
+        if [[ $line =~ ^crate\ ([a-z0-9_]+): ]]; then
+            checked=${BASH_REMATCH[1]}
+        elif [[ $line == 'logic=proved '* ]]; then
+            note "${place[$checked]-?} of $of: $checked proved"
         fi
     done
     if ! wait "$!" || [ ! -x "$binary" ]; then
+        rm -f "$stamp"
         printf '%s' "$said" >&2
         stop 'the program could not be built; above is what rt said'
     fi
