@@ -2,9 +2,9 @@
  * testing, editing and writing, and the edits that turn one patch into another; the operations that
  * configure units, and a model of a unit that is sent them.
  *
- * The face for C and C++ of a library that is proved. The library is libexports.a, which
- * `rt staticlib exports` makes in the repository that this header comes from; `make -C c install`
- * puts both where a compiler finds them, the library as libmatrix1000.a.
+ * The face for C and C++ of a library that is proved. The library is libexports.a, which `rt lib`
+ * makes in crates/exports of the repository that this header comes from; `make -C c install` puts
+ * both where a compiler finds them, the library as libmatrix1000.a.
  *
  * What holds of every function:
  *

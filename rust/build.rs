@@ -4,7 +4,8 @@
 //! The packages beside this one build with this script too: `compare` itself, `bench` through `compare`.
 
 use std::env;
-use std::path::Path;
+use std::fs;
+use std::path::{Path, PathBuf};
 use std::process::Command;
 
 fn main() {
@@ -13,16 +14,32 @@ fn main() {
         let archive = Path::new(&folder).join("libexports.a");
         println!("cargo::rerun-if-changed={}", archive.display());
     }
-    for path in ["tests/library", "crates.txt", "crates", "target/staticlib"] {
-        println!("cargo::rerun-if-changed=../{path}");
+    for path in ["../tests/library", "../crates.txt"] {
+        println!("cargo::rerun-if-changed={path}");
     }
-    match library() {
+    let made = library();
+    for path in parts() {
+        println!("cargo::rerun-if-changed={}", path.display());
+    }
+    match made {
         Ok(folder) => {
             println!("cargo::rustc-link-search=native={folder}");
             println!("cargo::rustc-link-lib=static=exports");
         }
         Err(why) => println!("cargo::error={why}"),
     }
+}
+
+/// What the library is made of, and the library where it is built: not all of `crates`, since each
+/// crate has a folder `out` too, where `rt` keeps much, and which is newer after each build. Cargo
+/// would build anew each time for a path that is not there.
+fn parts() -> Vec<PathBuf> {
+    let mut parts = vec![PathBuf::from("../crates/exports/out/libexports.a")];
+    for krate in fs::read_dir("../crates").into_iter().flatten().flatten() {
+        parts.extend(["src", "specs", "proofs"].map(|part| krate.path().join(part)));
+    }
+    parts.retain(|path| path.exists());
+    parts
 }
 
 /// The folder of the library, or one line that says what to do.
