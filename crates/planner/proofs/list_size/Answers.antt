@@ -19,7 +19,7 @@ same_at-requires c =
 
 pub loop-k-preserved-then-same_at : goal.loop-k-preserved-then-same_at
 loop-k-preserved-then-same_at c =
-    let s = at (goal.at.loop-k-preserved-then-same_at c).In-loop-k _ c.width_of_lem.ensures in
+    let s = at (goal.at.loop-k-preserved-then-same_at c).In-loop-k _ c.width_of-k.ensures in
     (s.next, omega (arith, ap length (edits_same s (sym c.same_at.ensures ∙ c.if-same_at.true))))
 
 pub overflow_add-size : goal.overflow_add-size

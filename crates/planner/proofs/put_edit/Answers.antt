@@ -16,9 +16,8 @@ put_remote-requires c =
 
 pub returns-in-Of : goal.returns-in-Of
 returns-in-Of c =
-    let given = c.parameter-1.given in
     let k = c.args.k in
-    let n = found_number k c.parameter_of.result c.parameter_of.ensures c.requires.0.0 c.if-k-lt-SOURCE_AT.true given.0.0 given.1 in
+    let n = found_number k c.parameter_of.result c.parameter_of.ensures c.requires.0.0 c.if-k-lt-SOURCE_AT.true c.in-Of.parameter c.in-Of.is in
     rw (lt-ltb k 104 c.if-k-lt-SOURCE_AT.true) (rw n at c.put_remote.ensures)
 
 pub returns-in_default : goal.returns-in_default

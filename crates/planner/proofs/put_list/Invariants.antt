@@ -1,6 +1,5 @@
 -- Message after message is written, each into the part that starts behind those written. The invariant: what is written, and what is left from
 -- the part at hand on, are the list.
--- An output in which the first at bytes of a whole are written, and what is left to be.
 use mathlib.Core.Path.{◌≡◌, refl, sym, ap, ◌∙◌}
 use mathlib.Core.List.{List, [], ◌++◌, append_assoc, append-nil}
 use Prim.Native.Nat.{ℕ, ◌+◌, ◌-◌, ◌≤◌}
@@ -14,6 +13,7 @@ use Rattle.edit_lists.specs.Lists.{message_for}
 use Rattle.edit_lists.specs.Plan.{width_of, reaching}
 use Rattle.edit_lists.specs.code.Left.{edits_left, length_at}
 use Rattle.edit_lists.proofs.Left.{Stands, stands_start, message_length, Step, step, edits_same, edits_other, edits_longer, edits_none}
+use Rattle.planner.proofs.Writing.{Writing}
 use Rattle.planner.proofs.put_list.Given as goal
 
 abbrev pub invariant-loop-k : goal.invariant-loop-k
