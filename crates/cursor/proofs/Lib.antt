@@ -1,3 +1,0 @@
-pub mod Made
-pub mod Owned
-pub mod Walk

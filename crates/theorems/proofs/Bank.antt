@@ -1,6 +1,6 @@
 -- A written bank, read with any bytes before and behind it, gives its patches in order with their numbers and nothing else: the scan reports a dump and
 -- goes on behind it, and no patch of a bank that is written is bad. Its first F0H starts a message in every state; an empty bank is no byte at all.
-use mathlib.Core.Path.{◌≡◌, refl, sym, ap, ◌∙◌}
+use mathlib.Core.Path.{◌≡◌, refl, sym, ap, ◌∙◌, subst}
 use mathlib.Core.Bool.{Bool, true, false, not, ◌||◌}
 use mathlib.Core.List.{List, [], ◌∷◌, ◌++◌, append_assoc}
 use mathlib.Core.Option.{Option, none, some}
@@ -117,7 +117,8 @@ lay_bank n ps before behind few long good =
       some_bytes = omega arith;
       whole = reports_scan judge (stream before (bank_from (suc n) 0 ps) behind) ∙ start_bank n ps before behind
           ∙ rw size (ap (λ (x : List Report). ahead judge 0 outside before ++ x) scanned);
-      placed = rw size (placed f (suc n) 0 (suc n) ps (omega arith));
+      placed = subst (λ (w : ℕ). All (λ (r : Report). (f ≤ r.start) × (r.start < f + w - 1)) (bank_reports f (suc n) 0 ps)) (sym size)
+          (placed f (suc n) 0 (suc n) ps (omega arith));
     }
 
 -- A bank that is written: whole patches, at most 100, none bad, and their dumps at the output's start.
