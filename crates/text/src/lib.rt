@@ -3,6 +3,8 @@
 // place that the last one answered, put their texts joined.
 #![tactic(auto)]
 
+pub mod input;
+
 ghost use Rattle.std.specs.Prelude.{◌≡◌, ◌≤◌, [], ◌∷◌, length, drop};
 ghost use Rattle.answers.specs.code.Numbers.{of_number};
 ghost use Rattle.text.specs.Text.{decimal, followed, signed, spaced, Puts};
