@@ -2,7 +2,9 @@
 // A byte more than the listing takes is read, so that a longer input is told.
 #![tactic(auto)]
 
-ghost use Rattle.std.specs.Prelude.{◌≤◌, length};
+ghost use Rattle.std.specs.Prelude.{◌≤◌, length, OnOk};
+ghost use Rattle.std.specs.Io.KnownBytes.{Appends};
+ghost use Rattle.listing.specs.Listing.{listing_of};
 ghost use Rattle.listing.specs.code.Pieces.{least_room};
 
 use listing::Left;
@@ -11,8 +13,9 @@ use std::io::Write;
 use text::input;
 
 // The listing of `s`, by way of a lent room.
-fn print(s: &[u8], room: &mut [u8], out: &mut impl Write) -> io::Result<()>
+fn print<W: Write>(s: &[u8], room: &mut [u8], out: &mut W) -> io::Result<()>
     requires { least_room ≤ length room.old }
+    ensures { OnOk result (Appends (W.contents out.old) (W.contents out.new) (listing_of s.now)) }
 {
     let mut left = Left::Whole;
     loop {
