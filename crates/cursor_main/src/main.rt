@@ -1,16 +1,19 @@
 // Prints the reports of the messages on standard input, a line each: start, end, answer, detail, value and noise; behind one with answer 0,
 // the four bytes that come with its record. Each is asked of the cursor crate, from the last end.
+#![tactic(auto)]
+
 ghost use Rattle.answers.specs.Table.{four};
-ghost use Rattle.io.specs.Counts.{IsPrefixLen};
-ghost use Rattle.text.specs.Text.{Puts};
+ghost use Rattle.text.specs.Text.{IsPrefixLen, Puts};
 ghost use Rattle.listing.specs.Listing.{line};
 ghost use Rattle.cursor_main.specs.Records.{record_line};
 
 use answers::{DONE, NO_MESSAGE};
-use libc::{STDIN_FILENO, STDOUT_FILENO};
 use messages::kinds::MASTER;
 use reading::recording::Reading;
 use reading::walking::Report;
+use std::io;
+use std::io::Write;
+use text::input;
 
 // A report's line.
 fn put_report(r: Report, room: &mut [u8]) -> usize
@@ -34,47 +37,55 @@ fn put_record(r: Reading, room: &mut [u8]) -> usize
 }
 
 // The record of the message at a place.
-fn print_record(s: &[u8], place: usize, room: &mut [u8]) {
+fn print_record(s: &[u8], place: usize, room: &mut [u8], out: &mut impl Write) -> io::Result<()> {
     let mut buffer = [0u8; MASTER];
     let n = put_record(cursor::read_from(s, place, &mut buffer), room);
-    io::write_all(STDOUT_FILENO, &room[..n]);
+    out.write_all(&room[..n])
 }
 
 // A report of the message at a place, and its record if it has one.
-fn print_report(s: &[u8], place: usize, r: Report, room: &mut [u8]) {
+fn print_report(
+    s: &[u8],
+    place: usize,
+    r: Report,
+    room: &mut [u8],
+    out: &mut impl Write,
+) -> io::Result<()> {
     let n = put_report(r, room);
-    io::write_all(STDOUT_FILENO, &room[..n]);
+    out.write_all(&room[..n])?;
     if r.outcome.answer == DONE {
-        print_record(s, place, room);
+        print_record(s, place, room, out)?;
     }
+    Ok(())
 }
 
 // The reports of an input. Each message has a byte at least, so there are no more than bytes.
-fn print_reports(s: &[u8], room: &mut [u8]) {
+fn print_reports(s: &[u8], room: &mut [u8], out: &mut impl Write) -> io::Result<()> {
     let mut place: usize = 0;
     for _ in 0..s.len() {
         let r = cursor::report_from(s, place);
         if r.outcome.answer == NO_MESSAGE {
-            return;
+            return Ok(());
         }
-        print_report(s, place, r, room);
+        print_report(s, place, r, room, out)?;
         place = r.end;
     }
+    Ok(())
 }
 
 // That the input is too long, alone.
-fn print_too_long(room: &mut [u8]) {
+fn print_too_long(room: &mut [u8], out: &mut impl Write) -> io::Result<()> {
     let n = listing::put_too_long(room, 0);
-    io::write_all(STDOUT_FILENO, &room[..n]);
+    out.write_all(&room[..n])
 }
 
-fn main() {
-    let mut input = [0u8; listing::MOST + 1];
-    let n = io::read_full(STDIN_FILENO, &mut input);
-    let mut room = io::buffer();
+fn main(rt: HostRuntime) -> io::Result<()> {
+    let mut all = [0u8; listing::MOST + 1];
+    let n = input::read_full(&mut rt.stdin(), &mut all)?;
+    let mut room = [0u8; 4096];
+    let mut out = rt.stdout();
     if listing::MOST < n {
-        print_too_long(&mut room);
-        return;
+        return print_too_long(&mut room, &mut out);
     }
-    print_reports(&input[..n], &mut room);
+    print_reports(&all[..n], &mut room, &mut out)
 }

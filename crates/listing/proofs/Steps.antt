@@ -6,8 +6,7 @@ use native.Mathlib.Nat.{zero-add}
 use native.Mathlib.Omega.{arith}
 use lib.ListN.{length, take, drop, length-append, length-take}
 use borrow.Author.Tests.{le-leb, lt-leb}
-use Rattle.io.specs.Counts.{IsPrefixLen}
-use Rattle.text.specs.Text.{Puts}
+use Rattle.text.specs.Text.{IsPrefixLen, Puts}
 use Rattle.text.proofs.Puts.{after, puts_none, puts_then, puts_whole, puts_counts}
 use Rattle.streams.specs.Stream.{Report}
 use Rattle.streams.specs.code.Scan.{outside, scan}

@@ -4,8 +4,7 @@
 #![tactic(auto)]
 
 ghost use Rattle.std.specs.Prelude.{◌*◌, ◌≤◌, length};
-ghost use Rattle.io.specs.Counts.{IsPrefixLen};
-ghost use Rattle.text.specs.Text.{Puts};
+ghost use Rattle.text.specs.Text.{IsPrefixLen, Puts};
 ghost use Rattle.reading.specs.code.Rooms.{width};
 ghost use Rattle.listing.specs.Listing.{line, total, too_long};
 ghost use Rattle.listing.specs.code.Pieces.{GivesPiece};

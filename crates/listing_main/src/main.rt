@@ -1,32 +1,37 @@
 // Prints the listing of standard input: each piece as the library makes it, until nothing is left or a piece cannot be written.
 // A byte more than the listing takes is read, so that a longer input is told.
-ghost use Rattle.std.specs.Prelude.{◌≤◌, length};
+#![tactic(auto)]
+
+ghost use Rattle.std.specs.Prelude.{◌≤◌, length, OnOk};
+ghost use Rattle.std.specs.Io.KnownBytes.{Appends};
+ghost use Rattle.listing.specs.Listing.{listing_of};
 ghost use Rattle.listing.specs.code.Pieces.{least_room};
 
-use libc::{STDIN_FILENO, STDOUT_FILENO};
 use listing::Left;
+use std::io;
+use std::io::Write;
+use text::input;
 
 // The listing of `s`, by way of a lent room.
-fn print(s: &[u8], room: &mut [u8])
+fn print<W: Write>(s: &[u8], room: &mut [u8], out: &mut W) -> io::Result<()>
     requires { least_room ≤ length room.old }
+    ensures { OnOk result (Appends (W.contents out.old) (W.contents out.new) (listing_of s.now)) }
 {
     let mut left = Left::Whole;
     loop {
         let piece = listing::next_piece(s, left, room);
         let len = piece.len;
-        if !io::write_all(STDOUT_FILENO, &room[..len]) {
-            return;
-        }
+        out.write_all(&room[..len])?;
         left = piece.left;
         if let Left::Nothing = left {
-            return;
+            return Ok(());
         }
     }
 }
 
-fn main() {
-    let mut input = [0u8; listing::MOST + 1];
-    let n = io::read_full(STDIN_FILENO, &mut input);
-    let mut room = io::buffer();
-    print(&input[..n], &mut room);
+fn main(rt: HostRuntime) -> io::Result<()> {
+    let mut all = [0u8; listing::MOST + 1];
+    let n = input::read_full(&mut rt.stdin(), &mut all)?;
+    let mut room = [0u8; 4096];
+    print(&all[..n], &mut room, &mut rt.stdout())
 }

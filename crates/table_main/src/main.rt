@@ -1,12 +1,14 @@
 // Prints the field table, a line for each byte of a patch: place, parameter, least and greatest value.
 // Every number is asked of the fields crate's lookups.
-ghost use Rattle.io.specs.Counts.{IsPrefixLen};
-ghost use Rattle.text.specs.Text.{signed, Puts};
+#![tactic(auto)]
+
+ghost use Rattle.text.specs.Text.{signed, IsPrefixLen, Puts};
 ghost use Rattle.fields.specs.Fields.{value_at, parameter_of};
 ghost use Rattle.table_main.specs.Table.{parameter_text, table_row, table_text};
 
 use fields::{BytePlace, FoundParameter};
-use libc::STDOUT_FILENO;
+use std::io;
+use std::io::Write;
 
 // Bytes of a patch.
 const PLACES: u8 = fields::PLACES as u8;
@@ -66,8 +68,8 @@ fn put_table(room: &mut [u8]) -> usize
     end
 }
 
-fn main() {
-    let mut room = io::buffer();
+fn main(rt: HostRuntime) -> io::Result<()> {
+    let mut room = [0u8; 4096];
     let n = put_table(&mut room);
-    io::write_all(STDOUT_FILENO, &room[..n]);
+    rt.stdout().write_all(&room[..n])
 }

@@ -1,44 +1,42 @@
--- A number's digits, as the library io makes them, are those of its definition. It goes by their count: the last one stands behind those of
--- the tenth part.
-use mathlib.Core.Path.{◌≡◌}
-use Prim.Native.Nat.{ℕ, zero, suc, ◌+◌, ◌-◌, ◌/◌, ◌%◌, ◌^◌, ◌<◌, ◌≤◌}
-use native.Mathlib.Decide.{dec_le}
-use native.Mathlib.Nat.{pow-suc, pow-le-pow_right, mod-eq_of_lt}
+-- A number's digits, with room for one more: its own where it is below 10, else those of its tenth part and then the last one. And a turn that
+-- puts the last one in front of those behind it.
+use mathlib.Core.Path.{◌≡◌, sym}
+use mathlib.Core.List.{List, [], ◌∷◌, ◌++◌}
+use Prim.Native.Nat.{ℕ, zero, suc, ◌+◌, ◌/◌, ◌%◌, ◌^◌, ◌<◌, ◌≤◌}
+use native.Mathlib.Nat.{pow-suc}
+use native.Mathlib.Numerals.{add-one}
 use native.Mathlib.Omega.{arith}
+use lib.ListN.{length, drop, set}
+use lib.Seq.{append_snoc}
 use borrow.Author.Tests.{lt-ltb, le-ltb}
-use Rattle.io.specs.Digits.{hex_digit_ascii, last_digits, IsDigitCount}
+use Rattle.std.proofs.lemmas.List.{drop-set}
 use Rattle.text.specs.Text.{digits_of}
 
--- A number of 64 bits has at most 20 digits: 21 of them would make it at least 10 to the 20th.
-pub few_digits : (n k : ℕ) → n < 2 ^ 64 → IsDigitCount 10 1 n k → k ≤ 20
-few_digits n k h f = by_count (dec_le k 20)
-  where
-    by_count : Dec (k ≤ 20) → k ≤ 20
-    by_count (yes e) = e
-    by_count (no e) =
-        let many : 20 ≤ k - 1 = omega (arith, e) in
-        let far : 10 ^ 20 ≤ 10 ^ (k - 1) = pow-le-pow_right {n = 10} (omega arith) many in
-        let least : 10 ^ (k - 1) ≤ n = f.2 (omega (arith, e)) in
-        absurd (omega arith)
-
-glyph_digit : (d : ℕ) → d < 10 → hex_digit_ascii d ≡ 48 + d
-glyph_digit d h = rw (lt-ltb d 10 h)
-
--- The fewest digits that hold a number are its digits.
-pub digits_same : (f k n : ℕ) → k ≤ f → IsDigitCount 10 1 n k → last_digits 10 k n ≡ digits_of f n
+digits_one : (k n : ℕ) → n < 10 → digits_of (k + 1) n ≡ (48 + n) ∷ []
 unfolding digits_of
-digits_same zero k n h q = absurd (omega (arith, q.0))
-digits_same (suc f) zero n h q = absurd (omega (arith, q.0))
-digits_same (suc f) (suc zero) n h q =
-    let small : n < 10 = q.1 in
-    rw (mod-eq_of_lt small, glyph_digit n small, lt-ltb n 10 small)
-digits_same (suc f) (suc (suc j)) n h q =
-    let one_less : suc (suc j) - 1 ≡ suc j = omega arith in
-    let two-less : suc j - 1 ≡ j = omega arith in
-    let least : 10 ^ suc j ≤ n = rw one_less at (q.2 (omega arith)) in
-    let p = pow-suc 10 j in
-    let p' = pow-suc 10 (suc j) in
-    let some : 10 ^ 0 ≤ 10 ^ j = pow-le-pow_right {n = 10} (omega arith) {i = 0} {j = j} (omega arith) in
-    let most = q.1 in
-    let rest = digits_same f (suc j) (n / 10) (omega arith) (omega arith, omega arith, λ _. rw two-less (omega arith)) in
-    rw (rest, glyph_digit (n % 10) (omega arith), le-ltb n 10 (omega arith))
+digits_one k n h = rw (add-one k, digits_of, lt-ltb n 10 h)
+
+digits_more : (k n : ℕ) → 10 ≤ n → digits_of (k + 1) n ≡ digits_of k (n / 10) ++ ((48 + n % 10) ∷ [])
+unfolding digits_of
+digits_more k n h = rw (add-one k, digits_of, le-ltb n 10 h)
+
+-- A number with more than one digit, and at most k more.
+pub record Shorter (k n : ℕ) : Type 0 where
+  pub some : 0 < k
+  pub few : n / 10 < 10 ^ k
+
+pub shorter : (k n : ℕ) → 10 ≤ n → n < 10 ^ (k + 1) → Shorter k n
+shorter zero n h few = absurd (omega (arith, few))
+shorter (suc k) n h few =
+    let all : n < 10 ^ suc (suc k) = rw add-one at few in
+    record { some = omega arith; few = omega (arith, pow-suc 10 (suc k)) }
+
+-- The last digit is put.
+pub digit_put : (k n : ℕ) (out : List ℕ) → 10 ≤ n → k < length out
+    → digits_of k (n / 10) ++ drop k (set out k (48 + n % 10)) ≡ digits_of (k + 1) n ++ drop (k + 1) out
+digit_put k n out h room =
+    rw (digits_more k n h, drop-set out k (48 + n % 10) room) (sym (append_snoc (digits_of k (n / 10)) (48 + n % 10) (drop (k + 1) out)))
+
+-- The first digit is put.
+pub first_put : (k n : ℕ) (out : List ℕ) → n < 10 → k < length out → drop k (set out k (48 + n)) ≡ digits_of (k + 1) n ++ drop (k + 1) out
+first_put k n out h room = rw (digits_one k n h) (drop-set out k (48 + n) room)

@@ -9,8 +9,7 @@ use native.Mathlib.Numerals.{add-one, unary_clauses}
 use native.Mathlib.Omega.{arith}
 use lib.ListN.{length, take, drop, set, length-append, length-drop, length-take, take-append-drop}
 use lib.Seq.{length-take-le, take_all, take-nil, take_at, drop_at, drop-drop, set_split}
-use Rattle.io.specs.Counts.{IsPrefixLen}
-use Rattle.text.specs.Text.{fitting, Puts}
+use Rattle.text.specs.Text.{fitting, IsPrefixLen, Puts}
 
 -- The first n of two lists joined: the first of w, and of v as many as are left.
 take_both : (n : ℕ) (w v : List ℕ) → take n (w ++ v) ≡ take n w ++ take (n - length (take n w)) v

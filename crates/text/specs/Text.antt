@@ -1,5 +1,5 @@
 -- Text in ASCII: words, numbers in decimal with and without a sign; and text put into lent room.
-use Rattle.std.specs.Prelude.{◌≡◌, cond, List, [], ◌∷◌, ◌++◌, ℕ, zero, suc, ◌+◌, ◌-◌, ◌/◌, ◌%◌, ltb, ℤ, pos, negsuc, length, take, drop}
+use Rattle.std.specs.Prelude.{◌≡◌, cond, List, [], ◌∷◌, ◌++◌, ℕ, zero, suc, ◌+◌, ◌-◌, ◌/◌, ◌%◌, ◌≤◌, ltb, ℤ, pos, negsuc, length, take, drop}
 use Prim.Native.Char.{code}
 use Prim.Native.String.{String, [] as no-letter, ◌∷◌ as letter}
 
@@ -39,3 +39,8 @@ fitting w room at = take (length room - at) w
 pub record Puts (w old : List ℕ) (at : ℕ) (new : List ℕ) (end : ℕ) : Type 0 where
   pub ends : end ≡ at + length (fitting w old at)
   pub text : new ≡ take at old ++ (fitting w old at ++ drop end old)
+
+-- What stands before place n of a room can be lent, and is n bytes. The second part follows from the first, and spares a caller's `&room[..n]` a
+-- proof file.
+abbrev pub IsPrefixLen : ℕ → List ℕ → Type 0
+IsPrefixLen n room = (n ≤ length room) × (n ≡ length (take n room))

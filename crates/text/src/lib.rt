@@ -1,9 +1,13 @@
 // Text in ASCII, put into lent room from a place on: bytes, numbers in decimal with and without a sign. Each routine puts as many bytes as
 // there is room for, keeps the room's other bytes, and answers the place behind what it put. So routines called one behind the other, each from the
 // place that the last one answered, put their texts joined.
-ghost use Rattle.std.specs.Prelude.{[], ◌∷◌};
+#![tactic(auto)]
+
+pub mod input;
+
+ghost use Rattle.std.specs.Prelude.{◌≡◌, ◌≤◌, [], ◌∷◌, length, drop};
 ghost use Rattle.answers.specs.code.Numbers.{of_number};
-ghost use Rattle.text.specs.Text.{followed, signed, spaced, Puts};
+ghost use Rattle.text.specs.Text.{decimal, followed, signed, spaced, Puts};
 
 // Numbers from here on stand for those below zero.
 const HALF: usize = 0x8000_0000_0000_0000;
@@ -34,13 +38,29 @@ pub fn put(room: &mut [u8], at: usize, bytes: &[u8]) -> usize
     end
 }
 
+// The digits of a number at the end of `out`; answers where they start.
+fn put_digits(n: usize, out: &mut [u8; 20]) -> usize
+    ensures within { result ≤ length out.new }
+    ensures digits { drop result out.new ≡ decimal n }
+{
+    let mut from: usize = 19;
+    let mut rest = n;
+    while rest >= 10 {
+        out[from] = b'0' + (rest % 10) as u8;
+        rest /= 10;
+        from -= 1;
+    }
+    out[from] = b'0' + rest as u8;
+    from
+}
+
 // A number in decimal, and the byte behind it.
 pub fn put_number(room: &mut [u8], at: usize, n: usize, behind: u8) -> usize
     ensures { Puts (followed n behind) room.old at room.new result }
 {
     let mut digits = [0u8; 20];
-    let k = io::decimal(n as u64, &mut digits);
-    let end = put(room, at, &digits[..k]);
+    let from = put_digits(n, &mut digits);
+    let end = put(room, at, &digits[from..]);
     put_byte(room, end, behind)
 }
 

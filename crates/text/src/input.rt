@@ -1,0 +1,24 @@
+// Input put into lent room. No buffer stands in between, so that no more is read than there is room for.
+ghost use Rattle.std.specs.Prelude.{ℕ, ◌<◌, length, take, IfOk};
+ghost use Rattle.std.specs.Io.KnownBytes.{Consumes, IsAtEnd};
+ghost use Rattle.text.specs.Text.{IsPrefixLen};
+
+use std::io;
+use std::io::Read;
+
+// Reads until the room is full or the input ends; answers how many bytes stand at the room's start.
+pub fn read_full<R: Read>(input: &mut R, room: &mut [u8]) -> io::Result<usize>
+    ensures prefix_len { IfOk result (λ n. IsPrefixLen n room.new) }
+    ensures bytes { IfOk result (λ n. Consumes (R.remaining input.old) (R.remaining input.new) (take n room.new)) }
+    ensures ends { IfOk result (λ n. n < length room.new → IsAtEnd (R.remaining input.new)) }
+{
+    let mut end: usize = 0;
+    while end < room.len() {
+        let n = input.read(&mut room[end..])?;
+        if n == 0 {
+            return Ok(end);
+        }
+        end += n;
+    }
+    Ok(end)
+}
