@@ -12,7 +12,7 @@ use borrow.Author.Tests.{lt-ltb, le-ltb, ltb-false}
 use Rattle.answers.specs.declared.Outcome.{Outcome}
 use Rattle.answers.specs.declared.Placed.{Placed}
 use Rattle.answers.specs.Table.{Row, row, Verdict, done, refused, first, outcome, outcome_of, answer_of}
-use Rattle.answers.specs.Effect.{Effect, told_as, tested, changed, written, placed, no_place, or_later, unless_placed, Gives}
+use Rattle.answers.specs.Effect.{Effect, told_as, tested, changed, written, no_place, unless_placed, Gives}
 use Rattle.answers.specs.code.Found.{found_or}
 use Rattle.answers.proofs.Rows.{Refusals, both_refusals, Heard, nothing, something, heard, decides}
 use Rattle.answers.proofs.Rows.{first_append, first_passed, passed_over, silent_parts, zero_silent, answered_silent, row_silent, stopped, first_stopped}

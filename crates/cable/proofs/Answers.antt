@@ -1,15 +1,15 @@
 -- What a call answers, by its tests: behind the end, past the limit, and else by the message that ended with it or by none.
 use mathlib.Core.Path.{◌≡◌, refl, sym, ap, ◌∙◌}
-use mathlib.Core.Bool.{Bool, true, false, cond}
+use mathlib.Core.Bool.{Bool, true, false}
 use mathlib.Core.List.{List, []}
-use mathlib.Core.Logic.{◌↔◌, ◌⊎◌, inl, inr}
+use mathlib.Core.Logic.{◌⊎◌, inl, inr}
 use mathlib.Core.Option.{Option, none, some}
 use Prim.Native.Nat.{ℕ, ◌+◌, ◌≤◌, ◌<◌}
 use native.Mathlib.Omega.{arith}
 use lib.Dec.{ltb}
 use lib.ListN.{length}
 use borrow.Author.Tests.{lt-ltb, le-ltb, ltb-true, ltb-false}
-use Rattle.answers.specs.Table.{Verdict, done, refused, outcome, outcome_of, answer_of}
+use Rattle.answers.specs.Table.{Verdict, done, refused, answer_of}
 use Rattle.streams.specs.Bytes.{framed}
 use Rattle.streams.specs.Stream as stream
 use Rattle.streams.specs.Feed.{Taken, taken}
@@ -17,10 +17,8 @@ use Rattle.streams.specs.code.Scan.{State, outside, inside}
 use Rattle.streams.specs.promises.Feed.{Stops, at_an_end, at_all, Ending, closed, interrupted, EndsSo}
 use Rattle.streams.proofs.Feed as feed
 use Rattle.messages.specs.Judge.{judge}
-use Rattle.messages.specs.promises.Numbers.{InTable}
 use Rattle.messages.proofs.Numbers.{judge_number}
 use Rattle.cable.specs.declared.Cable.{Cable}
-use Rattle.cable.specs.declared.Fed.{Fed}
 use Rattle.cable.specs.declared.Step.{Step}
 use Rattle.cable.specs.Cable.{limit, held_by, laid_over, packed_by, packed_of, record_of, told, refusing, goes, feeding, last_told, ending}
 use Rattle.cable.specs.promises.Answers.{answer_in, OfMessage, Kept, NoReport, Done, Ended, Answers}

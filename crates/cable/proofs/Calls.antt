@@ -2,19 +2,15 @@
 use mathlib.Core.Path.{◌≡◌, ap, ◌∙◌}
 use mathlib.Core.Bool.{Bool, true, false, cond}
 use mathlib.Core.List.{List, []}
-use mathlib.Core.Option.{some}
 use Prim.Native.Nat.{ℕ, ◌+◌}
 use lib.Dec.{ltb}
 use lib.ListN.{length, take}
-use Rattle.answers.specs.Table.{refused, outcome}
-use Rattle.streams.specs.Stream.{report}
 use Rattle.streams.specs.Feed.{taken}
 use Rattle.streams.specs.code.Scan.{State, outside, inside}
 use Rattle.messages.specs.Judge.{judge}
 use Rattle.cable.specs.declared.Cable.{Cable}
-use Rattle.cable.specs.declared.Fed.{Fed}
 use Rattle.cable.specs.declared.Step.{Step}
-use Rattle.cable.specs.Cable.{limit, least, held_by, laid_over, cleared, resting, no_report, told, step_by, refusing, goes, feeding, last_told, ending}
+use Rattle.cable.specs.Cable.{limit, least, held_by, cleared, resting, step_by, refusing, goes, feeding, last_told, ending}
 
 module _ (c : Cable) where
   -- The message that is open.

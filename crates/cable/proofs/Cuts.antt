@@ -2,22 +2,21 @@
 -- rest, and what is stored of a message is all that matters of it.
 use mathlib.Core.Path.{◌≡◌, refl, sym, ap, ◌∙◌}
 use mathlib.Core.Bool.{Bool, true, false, cond}
-use mathlib.Core.List.{List, [], ◌∷◌, ◌++◌, map, append_assoc, append-nil}
+use mathlib.Core.List.{List, [], ◌∷◌, ◌++◌, map, append_assoc}
 use mathlib.Core.Option.{Option, none, some}
 use Prim.Native.Nat.{ℕ, zero, suc, ◌+◌, ◌-◌, ◌*◌, ◌≤◌, ◌<◌}
 use native.Mathlib.Omega.{arith}
-use lib.Dec.{ltb, leb}
-use lib.ListN.{length, take, drop, length-append, length-take, length-drop, take-append-drop}
+use lib.Dec.{leb}
+use lib.ListN.{length, take, drop, length-take, length-drop, take-append-drop}
 use lib.Seq.{drop-nil, take-take, take_all, take_at, take-append-le, length-take-le, drop-append-le}
-use borrow.Author.Tests.{leb-true, leb-false, le-leb, le-ltb, lt-ltb, ltb-true, ltb-false}
-use Rattle.answers.specs.Lists.{All}
-use Rattle.answers.specs.Table.{Verdict, done, refused, outcome, answer_of}
+use borrow.Author.Tests.{leb-true, leb-false, le-leb, le-ltb}
+use Rattle.answers.specs.Table.{Verdict, done, refused, answer_of}
 use Rattle.answers.specs.Effect.{at_start, told_as}
 use Rattle.answers.proofs.Lists.{all_weaken}
-use Rattle.streams.specs.Bytes.{ByteKind, dataByte, exclusive, endOfExclusive, otherStatus, realTime, byte_kind, framed}
+use Rattle.streams.specs.Bytes.{ByteKind, dataByte, exclusive, endOfExclusive, otherStatus, realTime, byte_kind}
 use Rattle.streams.specs.Stream as stream
 use Rattle.streams.specs.Stream.{packed_in, walk, read}
-use Rattle.streams.specs.Feed.{Taken, taking, taken}
+use Rattle.streams.specs.Feed.{Taken, taken}
 use Rattle.streams.specs.code.Scan.{State, outside, inside, next, emit, scan, finish}
 use Rattle.streams.specs.promises.Feed.{list_of, Stops, at_an_end, at_all, Within}
 use Rattle.streams.proofs.Feed as feed
@@ -28,13 +27,12 @@ use Rattle.messages.specs.Judge.{judge}
 use Rattle.messages.proofs.Long.{judge_kept}
 use Rattle.reading.specs.code.Told.{reading_of}
 use Rattle.cable.specs.declared.Cable.{Cable}
-use Rattle.cable.specs.declared.Fed.{Fed}
 use Rattle.cable.specs.declared.Step.{Step}
-use Rattle.cable.specs.Cable.{limit, room, least, held_by, laid_over, cleared, packed_by, packed_of, resting, record_of, fresh_record, told, step_by, goes, feeding, last_told, ending}
+use Rattle.cable.specs.Cable.{limit, room, least, held_by, laid_over, cleared, packed_of, resting, record_of, fresh_record, told, step_by, goes, feeding, last_told, ending}
 use Rattle.cable.specs.promises.Cuts.{Entry, given, entry_of, Run, run, with_bytes, ReadSo, AsTheFile, EveryCut}
 use Rattle.cable.proofs.Kept.{least_second}
-use Rattle.cable.proofs.Recorded.{Known, known_judge}
-use Rattle.cable.proofs.Calls.{held_inside, held_outside, ending_first, feeding_goes}
+use Rattle.cable.proofs.Recorded.{known_judge}
+use Rattle.cable.proofs.Calls.{ending_first, feeding_goes}
 
 -- As much of a content as is stored, with more behind it.
 stored_again : (c w : List ℕ) → take room (take room c ++ w) ≡ take room (c ++ w)
@@ -301,7 +299,7 @@ every_cut = record { as_the_file = as_the_file; gets_on = on }
               λ t k m.
                   let within : (feeding c s).state.taken + length t ≤ limit = omega (arith, g.place, none) in
                   let took = (going (feeding c s).state t g.on within).took in
-                  let some-taken = feed.taken_on judge t (feeding c s).state.taken m in
+                  let some_taken = feed.taken_on judge t (feeding c s).state.taken m in
                   let same : (its (feeding c s).state t).count ≡ (taken judge (feeding c s).state.taken outside t).count = ap (λ (x : State). (taken judge (feeding c s).state.taken x t).count) out in
                   omega arith,
             )

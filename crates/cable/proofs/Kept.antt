@@ -3,14 +3,12 @@ use mathlib.Core.Path.{◌≡◌, refl, sym, ap, ◌∙◌}
 use mathlib.Core.Bool.{Bool, true, false, cond}
 use mathlib.Core.List.{List, [], ◌∷◌, ◌++◌, append_assoc, append-nil}
 use Prim.Native.Nat.{ℕ, ◌+◌, ◌-◌, ◌≤◌, ◌<◌}
-use native.Mathlib.Nat.{min-eq_left, min-eq_right}
 use native.Mathlib.Omega.{arith}
 use lib.Dec.{leb, ltb}
 use lib.ListN.{length, take, drop, set, length-append, length-take, length-drop, drop_of_length-le}
-use lib.Seq.{take_all, take_at, drop_at, take-append-le, take-append-add, length-take-le, drop-drop}
+use lib.Seq.{take_all, take_at, take-append-le, take-append-add, length-take-le, drop-drop}
 use borrow.Author.Tests.{leb-true, leb-false, ltb-true, ltb-false}
 use borrow.Rule.Slice.PartMut.{put_mid, mid_of, post_of}
-use Rattle.answers.specs.Effect.{at_start}
 use Rattle.answers.proofs.Lists.{put_next}
 use Rattle.cable.specs.Cable.{least}
 use Rattle.cable.specs.code.Steps.{Kept}

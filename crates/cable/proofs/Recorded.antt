@@ -1,18 +1,16 @@
 -- The packed bytes of a message in the reader's room: there is always room, and the outcome says how many they are.
 use mathlib.Core.Path.{◌≡◌, refl, sym, ap, ◌∙◌}
-use mathlib.Core.Bool.{Bool, true}
-use mathlib.Core.List.{List, []}
-use Prim.Native.Nat.{ℕ, ◌%◌, ◌≤◌, ◌<◌}
+use mathlib.Core.List.{List}
+use Prim.Native.Nat.{ℕ, ◌≤◌}
 use native.Mathlib.Nat.{mod-eq_of_lt}
 use native.Mathlib.Omega.{arith}
 use lib.ListN.{length, replicate, length-replicate}
-use borrow.Author.Tests.{le-leb, ne_eqb, eq-eqb}
+use borrow.Author.Tests.{le-leb, ne_eqb}
 use Rattle.answers.specs.Table.{Verdict, done, refused, outcome, outcome_of, answer_of}
 use Rattle.answers.specs.Effect.{Gives, at_start}
 use Rattle.streams.specs.Bytes.{framed}
 use Rattle.streams.specs.Stream.{packed_in}
-use Rattle.messages.specs.Kinds.{kind_of, master}
-use Rattle.messages.specs.code.Sizes.{packed_size}
+use Rattle.messages.specs.Kinds.{master}
 use Rattle.messages.specs.Judge.{judge}
 use Rattle.messages.proofs.Accepted.{Accepted, accepted}
 use Rattle.messages.proofs.Numbers.{refused_number}

@@ -1,20 +1,19 @@
 -- The steps of a call by their parts: a message that ended, one that stays open, and none.
-use mathlib.Core.Path.{◌≡◌, refl, sym, ap, ◌∙◌}
-use mathlib.Core.Bool.{Bool, true, false, cond}
-use mathlib.Core.List.{List, [], ◌∷◌, ◌++◌}
+use mathlib.Core.Path.{◌≡◌, refl, ap, ◌∙◌}
+use mathlib.Core.Bool.{true, false}
+use mathlib.Core.List.{List, [], ◌++◌}
 use mathlib.Core.Option.{Option, none, some}
-use Prim.Native.Nat.{ℕ, suc, ◌+◌, ◌-◌, ◌≤◌, ◌<◌}
+use Prim.Native.Nat.{ℕ, ◌+◌, ◌-◌, ◌≤◌, ◌<◌}
 use native.Mathlib.Nat.{zero-add}
 use native.Mathlib.Omega.{arith}
 use lib.ListN.{length, take, drop, length-drop}
-use Rattle.answers.specs.Table.{Verdict, refused, outcome, outcome_of}
-use Rattle.answers.specs.Effect.{Gives, at_start}
+use Rattle.answers.specs.Table.{Verdict, refused, outcome}
+use Rattle.answers.specs.Effect.{Gives}
 use Rattle.answers.proofs.Lists.{to_end}
-use Rattle.streams.specs.Bytes.{body, without_real_time, real_time_in, framed}
-use Rattle.streams.specs.Stream.{Report, report, packed_in}
+use Rattle.streams.specs.Bytes.{without_real_time, framed}
+use Rattle.streams.specs.Stream.{Report, report}
 use Rattle.streams.specs.Feed.{Taken, taking, taken}
 use Rattle.streams.specs.code.Scan.{State, outside, inside}
-use Rattle.streams.proofs.Feed.{past}
 use Rattle.frames.specs.declared.Span.{Span}
 use Rattle.frames.specs.code.Extent.{ahead, span_of}
 use Rattle.frames.proofs.Extent.{ahead_within}
@@ -23,7 +22,7 @@ use Rattle.messages.specs.Judge.{judge}
 use Rattle.messages.proofs.Long.{judge_kept}
 use Rattle.judging.specs.declared.Judged.{Judged}
 use Rattle.judging.specs.declared.Heard.{Heard}
-use Rattle.judging.specs.code.Judged.{judged, refused_by, recorded_as}
+use Rattle.judging.specs.code.Judged.{refused_by, recorded_as}
 use Rattle.judging.specs.code.Heard.{verdict_from, recorded_from}
 use Rattle.judging.proofs.Spans.{verdict_ended, verdict_judged}
 use Rattle.cable.specs.declared.Cable.{Cable}

@@ -1,7 +1,7 @@
 -- Document 02 (iv), 'Reading straight from the cable': a reader's record, held by the desk program, and what each call tells and leaves in it.
 use Rattle.std.specs.Prelude.{◌≡◌, Bool, true, false, cond, List, [], ℕ, ◌+◌, ltb, length, take, replicate}
 use Rattle.std.proofs.Math.Option.{Option, none, some}
-use Rattle.answers.specs.Table.{Verdict, refused, outcome, four}
+use Rattle.answers.specs.Table.{refused, outcome, four}
 use Rattle.answers.specs.Effect.{at_start}
 use Rattle.streams.specs.Stream as stream
 use Rattle.streams.specs.Stream.{packed_in}

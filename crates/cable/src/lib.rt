@@ -12,7 +12,7 @@ ghost use Rattle.streams.specs.Feed.{taken};
 ghost use Rattle.streams.specs.code.Scan.{outside};
 ghost use Rattle.messages.specs.Judge.{judge};
 ghost use Rattle.judging.specs.code.Judged.{refused_by};
-ghost use Rattle.cable.specs.Cable.{limit, least, room as roomSize, cleared, resting, fresh_record, no_report, told, step_by, goes, feeding, ending};
+ghost use Rattle.cable.specs.Cable.{limit, least, room as room_size, cleared, resting, fresh_record, no_report, told, step_by, goes, feeding, ending};
 ghost use Rattle.cable.specs.code.Steps.{record_in, size_told, ended_as, open_as, Turns};
 
 use crate::room::{append, clear, least_of, put_all};
@@ -190,7 +190,7 @@ fn interrupted() -> Judged
 // Inside a message: on to its end, or all of the input. The caller below has seen that one is open, that the room is a record's, and
 // that the places fit.
 fn follow(room: &mut [u8], held: Held, input: &[u8]) -> Turn
-    requires { (held.inside ≡ true) × (length room.old ≡ roomSize) × (held.taken + length input.now ≤ limit) }
+    requires { (held.inside ≡ true) × (length room.old ≡ room_size) × (held.taken + length input.now ≤ limit) }
     ensures { Turns (goes (record_in room.old held) input.now) room.new result }
 {
     let start = held.start;
@@ -216,7 +216,7 @@ fn follow(room: &mut [u8], held: Held, input: &[u8]) -> Turn
 // Outside a message: on to the end of the next one, or all of the input. A message that stands there whole is read where it stands. The
 // caller below has seen that the room is a record's, and that the places fit.
 fn seek(room: &mut [u8], place: usize, input: &[u8]) -> Turn
-    requires { (length room.old ≡ roomSize) × (place + length input.now ≤ limit) }
+    requires { (length room.old ≡ room_size) × (place + length input.now ≤ limit) }
     ensures { Turns (step_by cleared place (taken judge place outside input.now)) room.new result }
 {
     clear(room);
@@ -264,7 +264,7 @@ fn too_many(taken: usize, more: usize) -> bool
 // What a feed makes of a record: 1 behind the end, 21 where the bytes would be too many, and then nothing changes. The caller below lends
 // the room of a record.
 fn take(room: &mut [u8], held: Held, input: &[u8]) -> Turn
-    requires { length room.old ≡ roomSize }
+    requires { length room.old ≡ room_size }
     ensures { Turns (feeding (record_in room.old held) input.now) room.new result }
 {
     let place = held.taken;

@@ -4,7 +4,7 @@ use mathlib.Core.Path.{◌≡◌, refl, sym, ap, ◌∙◌, subst}
 use mathlib.Core.Bool.{Bool, true, false, cond, ◌&&◌, ◌||◌}
 use mathlib.Core.List.{List, [], ◌∷◌, ◌++◌}
 use mathlib.Core.Logic.{inl, inr}
-use mathlib.Core.Option.{none, some}
+use mathlib.Core.Option.{none}
 use Prim.Native.Nat.{ℕ, zero, suc, ◌+◌, ◌-◌, ◌%◌, ◌≤◌, ◌<◌}
 use native.Mathlib.Omega.{arith}
 use lib.Dec.{T, eqb, leb, leb→le}
@@ -241,9 +241,9 @@ field_rows_hold : (k : ℕ) (b : List ℕ) → 8 ≤ k → k < 104 → Good b �
 field_rows_hold k b l u f =
     let n = parameter_at k in
     let v = sent (get_or b k 0) in
-    let in-range = good_range b f k (omega arith) in
-    let stored = byte_reached k (get_or b k 0) l (omega arith) in-range in
-    subst Silent (sym (rows_at n v k (parameter_place k l u))) (value_silent k n v (small (get_or b k 0)) (rw stored in-range))
+    let is_in_range = good_range b f k (omega arith) in
+    let stored = byte_reached k (get_or b k 0) l (omega arith) is_in_range in
+    subst Silent (sym (rows_at n v k (parameter_place k l u))) (value_silent k n v (small (get_or b k 0)) (rw stored is_in_range))
 
 reaching_field : (k : ℕ) (b : List ℕ) → k < 104 → reaching b k ≡ remote (parameter_at k) (sent (get_or b k 0))
 reaching_field k b h = rw (lt-ltb k 104 h)

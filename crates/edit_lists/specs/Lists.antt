@@ -4,7 +4,7 @@ use Rattle.std.proofs.Math.Option.{Option, none, some}
 use Rattle.answers.specs.declared.Outcome.{Outcome}
 use Rattle.answers.specs.Effect.{Effect}
 use Rattle.edits.specs.Edits.{applying, applying_bus}
-use Rattle.messages.specs.declared.kinds.Kind.TheVariants.{Short as ofShort}
+use Rattle.messages.specs.declared.kinds.Kind.TheVariants.{Short as of_short}
 use Rattle.messages.specs.Kinds.{remote_edit, bus_edit}
 use Rattle.messages.specs.Layout.{message}
 
@@ -15,8 +15,8 @@ pub data Edit : Type 0 where
 
 -- Its message, as our writer writes it.
 abbrev pub message_for : Edit → List ℕ
-message_for (remote n v) = message (ofShort remote_edit) (n ∷ v ∷ []) []
-message_for (matrix b s a d) = message (ofShort bus_edit) (b ∷ s ∷ a ∷ d ∷ []) []
+message_for (remote n v) = message (of_short remote_edit) (n ∷ v ∷ []) []
+message_for (matrix b s a d) = message (of_short bus_edit) (b ∷ s ∷ a ∷ d ∷ []) []
 
 -- A list is such messages end to end. Its length is their number.
 unfoldable pub list_bytes : List Edit → List ℕ

@@ -7,7 +7,7 @@
 ghost use Rattle.std.specs.Prelude.{◌≡◌, [], ◌∷◌};
 ghost use Rattle.answers.specs.Effect.{Gives, tested};
 ghost use Rattle.edits.specs.Edits.{applying, applying_bus};
-ghost use Rattle.messages.specs.declared.kinds.Kind.TheVariants.{Dump as ofDump, Short as ofShort};
+ghost use Rattle.messages.specs.declared.kinds.Kind.TheVariants.{Dump as of_dump, Short as of_short};
 ghost use Rattle.messages.specs.Kinds.{single_patch, split_patch, master_parameters, edit_buffer, remote_edit, bus_edit};
 ghost use Rattle.messages.specs.Kinds.{request_data, group_mode, set_bank, unlock_bank, store_edit_buffer};
 ghost use Rattle.fields.specs.code.Columns.{or_none};
@@ -206,7 +206,7 @@ pub extern "C" fn matrix_apply_bus_edit(
 // Writes a numbered patch.
 #[unsafe(no_mangle)]
 pub extern "C" fn matrix_write_patch(number: u8, p: &[u8], out: &mut [u8]) -> Outcome
-    ensures { Gives (writing (ofDump single_patch) (number ∷ []) p.now out.old) result out.new }
+    ensures { Gives (writing (of_dump single_patch) (number ∷ []) p.now out.old) result out.new }
 {
     writing::write_patch(number, p, out)
 }
@@ -214,7 +214,7 @@ pub extern "C" fn matrix_write_patch(number: u8, p: &[u8], out: &mut [u8]) -> Ou
 // Writes a numbered split.
 #[unsafe(no_mangle)]
 pub extern "C" fn matrix_write_split(number: u8, p: &[u8], out: &mut [u8]) -> Outcome
-    ensures { Gives (writing (ofDump split_patch) (number ∷ []) p.now out.old) result out.new }
+    ensures { Gives (writing (of_dump split_patch) (number ∷ []) p.now out.old) result out.new }
 {
     writing::write_split(number, p, out)
 }
@@ -222,7 +222,7 @@ pub extern "C" fn matrix_write_split(number: u8, p: &[u8], out: &mut [u8]) -> Ou
 // Writes a patch to the edit buffer.
 #[unsafe(no_mangle)]
 pub extern "C" fn matrix_write_edit_buffer(p: &[u8], out: &mut [u8]) -> Outcome
-    ensures { Gives (writing (ofDump edit_buffer) [] p.now out.old) result out.new }
+    ensures { Gives (writing (of_dump edit_buffer) [] p.now out.old) result out.new }
 {
     writing::write_edit_buffer(p, out)
 }
@@ -230,7 +230,7 @@ pub extern "C" fn matrix_write_edit_buffer(p: &[u8], out: &mut [u8]) -> Outcome
 // Writes master parameters.
 #[unsafe(no_mangle)]
 pub extern "C" fn matrix_write_master(m: &[u8], out: &mut [u8]) -> Outcome
-    ensures { Gives (writing (ofDump master_parameters) [] m.now out.old) result out.new }
+    ensures { Gives (writing (of_dump master_parameters) [] m.now out.old) result out.new }
 {
     writing::write_master(m, out)
 }
@@ -238,7 +238,7 @@ pub extern "C" fn matrix_write_master(m: &[u8], out: &mut [u8]) -> Outcome
 // Writes a remote edit.
 #[unsafe(no_mangle)]
 pub extern "C" fn matrix_write_edit(parameter: u8, value: u8, out: &mut [u8]) -> Outcome
-    ensures { Gives (writing (ofShort remote_edit) (parameter ∷ value ∷ []) [] out.old) result out.new }
+    ensures { Gives (writing (of_short remote_edit) (parameter ∷ value ∷ []) [] out.old) result out.new }
 {
     writing::write_edit(Parameter(parameter), value, out)
 }
@@ -252,7 +252,7 @@ pub extern "C" fn matrix_write_bus_edit(
     destination: u8,
     out: &mut [u8],
 ) -> Outcome
-    ensures { Gives (writing (ofShort bus_edit) (bus ∷ source ∷ amount ∷ destination ∷ []) [] out.old) result out.new }
+    ensures { Gives (writing (of_short bus_edit) (bus ∷ source ∷ amount ∷ destination ∷ []) [] out.old) result out.new }
 {
     writing::write_bus_edit(bus, source, amount, destination, out)
 }
@@ -260,7 +260,7 @@ pub extern "C" fn matrix_write_bus_edit(
 // Writes a request for data.
 #[unsafe(no_mangle)]
 pub extern "C" fn matrix_write_request_data(kind: u8, number: u8, out: &mut [u8]) -> Outcome
-    ensures { Gives (writing (ofShort request_data) (kind ∷ number ∷ []) [] out.old) result out.new }
+    ensures { Gives (writing (of_short request_data) (kind ∷ number ∷ []) [] out.old) result out.new }
 {
     writing::write_request_data(kind, number, out)
 }
@@ -268,7 +268,7 @@ pub extern "C" fn matrix_write_request_data(kind: u8, number: u8, out: &mut [u8]
 // Writes group mode.
 #[unsafe(no_mangle)]
 pub extern "C" fn matrix_write_group_mode(total: u8, id: u8, out: &mut [u8]) -> Outcome
-    ensures { Gives (writing (ofShort group_mode) (total ∷ id ∷ []) [] out.old) result out.new }
+    ensures { Gives (writing (of_short group_mode) (total ∷ id ∷ []) [] out.old) result out.new }
 {
     writing::write_group_mode(total, id, out)
 }
@@ -276,7 +276,7 @@ pub extern "C" fn matrix_write_group_mode(total: u8, id: u8, out: &mut [u8]) -> 
 // Writes set bank.
 #[unsafe(no_mangle)]
 pub extern "C" fn matrix_write_set_bank(bank: u8, out: &mut [u8]) -> Outcome
-    ensures { Gives (writing (ofShort set_bank) (bank ∷ []) [] out.old) result out.new }
+    ensures { Gives (writing (of_short set_bank) (bank ∷ []) [] out.old) result out.new }
 {
     writing::write_set_bank(bank, out)
 }
@@ -284,7 +284,7 @@ pub extern "C" fn matrix_write_set_bank(bank: u8, out: &mut [u8]) -> Outcome
 // Writes unlock bank.
 #[unsafe(no_mangle)]
 pub extern "C" fn matrix_write_unlock_bank(out: &mut [u8]) -> Outcome
-    ensures { Gives (writing (ofShort unlock_bank) [] [] out.old) result out.new }
+    ensures { Gives (writing (of_short unlock_bank) [] [] out.old) result out.new }
 {
     writing::write_unlock_bank(out)
 }
@@ -297,7 +297,7 @@ pub extern "C" fn matrix_write_store_edit_buffer(
     id: u8,
     out: &mut [u8],
 ) -> Outcome
-    ensures { Gives (writing (ofShort store_edit_buffer) (number ∷ bank ∷ id ∷ []) [] out.old) result out.new }
+    ensures { Gives (writing (of_short store_edit_buffer) (number ∷ bank ∷ id ∷ []) [] out.old) result out.new }
 {
     writing::write_store_edit_buffer(number, bank, id, out)
 }

@@ -1,6 +1,6 @@
 -- A field's range as its least value and its width, the greatest minus the least modulo 256: a byte lies in the range exactly when, less
 -- the least modulo 256, it is at most the width.
-use Rattle.std.proofs.Common.{◌≡◌, ℕ, zero, suc, ◌+◌, ◌-◌, ◌/◌, ◌%◌, ◌<◌, ◌≤◌, Bool, true, false, ltb, leb, List, [], ◌∷◌, get_or, refl, le_of_suc-le-suc, arith, ltb-false, ltb-true, le-ltb, lt-ltb}
+use Rattle.std.proofs.Common.{◌≡◌, ℕ, zero, suc, ◌+◌, ◌/◌, ◌%◌, ◌<◌, ◌≤◌, Bool, true, false, ltb, leb, List, [], ◌∷◌, get_or, refl, le_of_suc-le-suc, arith, ltb-false, ltb-true, le-ltb, lt-ltb}
 use Rattle.ranges.specs.Ranges.{in_row, signed_in}
 use Rattle.ranges.proofs.Between.{between_width}
 use Rattle.fields.specs.Fields.{fields, least_at, greatest_at, in_range}

@@ -1,6 +1,6 @@
 -- The counts of a message's extent, a byte at a time: at an index of the bytes, as a loop has them.
 -- Each law splits the bytes at the index and looks at the kind of the byte there.
-use Rattle.std.proofs.Common.{◌≡◌, ℕ, suc, ◌+◌, ◌<◌, ◌≤◌, Bool, true, false, cond, eqb, List, [], ◌∷◌, length, get_or, drop, refl, add-zero, add-one, arith, drop_of_length-le, drop-cons, eq-eqb, ne_eqb}
+use Rattle.std.proofs.Common.{◌≡◌, ℕ, suc, ◌+◌, ◌<◌, ◌≤◌, Bool, true, false, cond, eqb, List, [], ◌∷◌, length, get_or, drop, add-zero, add-one, arith, drop_of_length-le, drop-cons, eq-eqb, ne_eqb}
 use Rattle.streams.specs.Bytes.{body}
 use Rattle.frames.specs.code.Extent.{ahead, start_at}
 use Rattle.frames.specs.code.Blocks.{Ends}

@@ -1,12 +1,12 @@
 -- What a call that is fed bytes takes, by the counts that the code has: from outside by the bytes before the first F0H, inside a message by its span.
-use Rattle.std.proofs.Common.{◌≡◌, ℕ, suc, ◌+◌, ◌<◌, ◌≤◌, Bool, true, false, cond, eqb, List, [], ◌∷◌, ◌++◌, length, take, drop, sym, refl, ap, ◌∙◌, add-zero, zero-add, arith, length-take-le, eqb-true}
+use Rattle.std.proofs.Common.{◌≡◌, ℕ, suc, ◌+◌, ◌<◌, ◌≤◌, Bool, true, false, cond, eqb, List, [], ◌∷◌, ◌++◌, length, take, drop, sym, refl, ap, ◌∙◌, add-zero, arith, length-take-le, eqb-true}
 use mathlib.Core.Option.{none, some}
 use borrow.Author.Tests.{eqb-false}
 use Rattle.answers.specs.Table.{Verdict, refused, outcome}
 use Rattle.streams.specs.Bytes.{byte_kind, body, without_real_time, real_time_in, framed}
 use Rattle.streams.specs.Stream.{report}
-use Rattle.streams.specs.Feed.{Taken, taking, onward, taken}
-use Rattle.streams.specs.code.Scan.{State, outside, inside}
+use Rattle.streams.specs.Feed.{taking, onward, taken}
+use Rattle.streams.specs.code.Scan.{outside, inside}
 use Rattle.streams.proofs.Bytes.{body_within, body_take}
 use Rattle.streams.proofs.Noise.{kept_and_dropped}
 use Rattle.streams.proofs.Scan.{further, next_outside}

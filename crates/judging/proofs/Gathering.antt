@@ -58,9 +58,9 @@ module _ (b o₀ : List ℕ) (h : 4 + 2 * length o₀ < length (without_real_tim
     noise_passed h = record { copied = u.copied; left = left_passed b (4 + 2 * k) at u.left (omega (arith, two_more)) h; narrow = u.narrow }
 
     -- Any other byte is the pair's first nibble.
-    module _ (data-byte : get_or b at 0 ≤ 0xF7) where
+    module _ (data_byte : get_or b at 0 ≤ 0xF7) where
       first : StandsAt b (4 + 2 * k) at
-      first = left_stands b (4 + 2 * k) at u.left (omega (arith, two_more)) data-byte
+      first = left_stands b (4 + 2 * k) at u.left (omega (arith, two_more)) data_byte
 
       low_byte : get_or sent (2 * k) 0 ≡ get_or b at 0
       low_byte = sent_byte (length o₀) (without_real_time b) (omega arith) (2 * k) (omega arith) ∙ stands_byte b (4 + 2 * k) at first
@@ -103,11 +103,11 @@ module _ (b o₀ : List ℕ) (h : 4 + 2 * length o₀ < length (without_real_tim
         → Underway sent b o₀ (set o k (get_or b at 0 + 16 * get_or b (at + 1) 0)) (at + 2) (k + 1)
     pair_on h =
         let narrow = both_narrow (get_or b at 0) (get_or b (at + 1) 0) h in
-        let data-byte : get_or b at 0 ≤ 0xF7 = omega (arith, narrow.0) in
-        let behind : LeftAt b (4 + 2 * k + 1) (at + 1) = left_behind b (4 + 2 * k) at (first data-byte) in
+        let data_byte : get_or b at 0 ≤ 0xF7 = omega (arith, narrow.0) in
+        let behind : LeftAt b (4 + 2 * k + 1) (at + 1) = left_behind b (4 + 2 * k) at (first data_byte) in
         let there = left_stands b (4 + 2 * k + 1) (at + 1) behind two_more (omega (arith, narrow.1)) in
         let two : at + 1 + 1 ≡ at + 2 = omega arith in
-        rw two at (packed_on data-byte narrow.0 (at + 1) there narrow.1)
+        rw two at (packed_on data_byte narrow.0 (at + 1) there narrow.1)
 
   -- All of them.
   pub gathered : (o : List ℕ) (at k : ℕ) → Underway sent b o₀ o at k → length o₀ ≤ k → Gathers sent o Nowhere

@@ -16,7 +16,7 @@ use Rattle.answers.proofs.Effects.{passed}
 use Rattle.streams.specs.Bytes.{framed}
 use Rattle.messages.specs.declared.kinds.Dump.{Dump}
 use Rattle.messages.specs.declared.kinds.Kind.{Kind}
-use Rattle.messages.specs.declared.kinds.Kind.TheVariants.{Dump as ofDump, Short as ofShort}
+use Rattle.messages.specs.declared.kinds.Kind.TheVariants.{Dump as of_dump, Short as of_short}
 use Rattle.messages.specs.declared.kinds.Short.{Short}
 use Rattle.messages.specs.Kinds.{kind_of, opcode_of, size_of, count_of, length_of, is_unknown}
 use Rattle.messages.specs.Judge.{byte_at, dump_rows, operand_rows, number_in, kind_rows, record_of, judge}
@@ -57,22 +57,22 @@ module _ {k : Kind} {c : List ℕ} {rows : List Row} {bytes : List ℕ} (i : Jud
 abbrev pub content_rows : Dump → List ℕ → List Row
 content_rows k c = let size = size_of k.packed in dump_rows k (get_or c 3 0) (sent_in size c) (sum_in size c)
 
-pub of_dump : (k : Dump) → T (sized (ofDump k)) → (c : List ℕ) → Judging (ofDump k) c (content_rows k c) (four (number_in k.behind (get_or c 3 0)))
-of_dump k s c = record {
+pub dump_judged : (k : Dump) → T (sized (of_dump k)) → (c : List ℕ) → Judging (of_dump k) c (content_rows k c) (four (number_in k.behind (get_or c 3 0)))
+dump_judged k s c = record {
   known = refl;
   tests = λ l.
-      let long : length c ≡ 5 + 2 * size_of k.packed = omega (arith, (is_sized (ofDump k) s).0) in
+      let long : length c ≡ 5 + 2 * size_of k.packed = omega (arith, (is_sized (of_dump k) s).0) in
       rw (framed_byte c 3 (omega arith), framed_data (size_of k.packed) c long, framed_sum (size_of k.packed) c long);
   refusals = dump_refusals k (get_or c 3 0) (sent_in (size_of k.packed) c) (sum_in (size_of k.packed) c);
-  accepts = λ l. rw (framed_byte c 3 (omega (arith, (is_sized (ofDump k) s).0)));
+  accepts = λ l. rw (framed_byte c 3 (omega (arith, (is_sized (of_dump k) s).0)));
 }
 
-pub of_short : (k : Short) → T (sized (ofShort k)) → (c : List ℕ) → Judging (ofShort k) c (operand_rows k.operands (drop 3 c)) (four (drop 3 c))
-of_short k s c = record {
+pub short_judged : (k : Short) → T (sized (of_short k)) → (c : List ℕ) → Judging (of_short k) c (operand_rows k.operands (drop 3 c)) (four (drop 3 c))
+short_judged k s c = record {
   known = refl;
-  tests = λ l. rw (framed_bytes (count_of k.operands) c (omega (arith, (is_sized (ofShort k) s).0)));
+  tests = λ l. rw (framed_bytes (count_of k.operands) c (omega (arith, (is_sized (of_short k) s).0)));
   refusals = operand_refusals k.operands (drop 3 c);
-  accepts = λ l. rw (framed_bytes (count_of k.operands) c (omega (arith, (is_sized (ofShort k) s).0)));
+  accepts = λ l. rw (framed_bytes (count_of k.operands) c (omega (arith, (is_sized (of_short k) s).0)));
 }
 
 -- Of four bytes, zero behind the last, the first so many are the bytes themselves.

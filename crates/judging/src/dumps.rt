@@ -3,8 +3,8 @@ ghost use Rattle.std.specs.Prelude.{◌≡◌, true, ◌+◌, ◌*◌, ◌≤◌
 ghost use Rattle.answers.specs.Effect.{tested};
 ghost use Rattle.fields.specs.Fields.{size};
 ghost use Rattle.streams.specs.Bytes.{framed};
-ghost use Rattle.messages.specs.declared.kinds.Kind.TheVariants.{Dump as ofDump};
-ghost use Rattle.messages.specs.declared.kinds.Packed.TheVariants.{Patch as aPatch};
+ghost use Rattle.messages.specs.declared.kinds.Kind.TheVariants.{Dump as of_dump};
+ghost use Rattle.messages.specs.declared.kinds.Packed.TheVariants.{Patch as a_patch};
 ghost use Rattle.messages.specs.Kinds.{size_of, master};
 ghost use Rattle.messages.specs.code.Sizes.{sized, lent_rows};
 ghost use Rattle.messages.specs.Judge.{sent_rows, misnumbered, number_in};
@@ -65,7 +65,7 @@ pub fn test_packed(packed: Packed, bytes: &[u8]) -> Outcome
 // The data of a patch, and its fields: 9 to 12, in a room that fits it. The caller below has seen the length.
 fn check_patch(sent: &[u8], sum: u8, room: &mut [u8]) -> Outcome
     requires { (length sent.now ≡ 2 * size) × (length room.old ≡ size) }
-    ensures { result ≡ tested (sent_rows aPatch sent.now sum) }
+    ensures { result ≡ tested (sent_rows a_patch sent.now sum) }
 {
     let data = check_sent(sent, sum, room);
     if data.answer != DONE {
@@ -88,7 +88,7 @@ fn check_room(packed: Packed, body: &[u8], count: usize, room: &mut [u8]) -> Out
 
 // `true` only for a patch without real time.
 fn is_plain_patch(packed: Packed, body: &[u8], count: usize) -> bool
-    ensures { result ≡ true → (packed ≡ aPatch) × (count ≡ length body.now) }
+    ensures { result ≡ true → (packed ≡ a_patch) × (count ≡ length body.now) }
 {
     match packed {
         Packed::Patch => count == body.len(),
@@ -135,8 +135,8 @@ fn number_of(behind: Behind, byte: u8) -> u8
 
 // A dump: 7, then 8 to 12. The caller has the kind from its opcode.
 pub(crate) fn judge_dump(kind: Dump, body: &[u8], count: usize) -> Judged
-    requires { T (sized (ofDump kind)) × (count ≡ length (content_by count body.now)) }
-    ensures { result ≡ judged (kind_verdict (ofDump kind) (framed (content_by count body.now))) }
+    requires { T (sized (of_dump kind)) × (count ≡ length (content_by count body.now)) }
+    ensures { result ≡ judged (kind_verdict (of_dump kind) (framed (content_by count body.now))) }
 {
     if count + 2 != kind.length {
         return refused_by(WRONG_LENGTH);

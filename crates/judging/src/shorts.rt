@@ -3,9 +3,9 @@ ghost use Rattle.std.specs.Prelude.{◌≡◌, T, length, drop, get_or};
 ghost use Rattle.answers.specs.Effect.{tested};
 ghost use Rattle.answers.specs.Table.{four};
 ghost use Rattle.streams.specs.Bytes.{framed};
-ghost use Rattle.messages.specs.declared.kinds.Kind.TheVariants.{Short as ofShort};
+ghost use Rattle.messages.specs.declared.kinds.Kind.TheVariants.{Short as of_short};
 ghost use Rattle.messages.specs.code.Sizes.{sized};
-ghost use Rattle.messages.specs.declared.kinds.Operands.TheVariants.{Operation as anOperation};
+ghost use Rattle.messages.specs.declared.kinds.Operands.TheVariants.{Operation as an_operation};
 ghost use Rattle.messages.specs.Judge.{operand_rows, lent_operand_rows};
 ghost use Rattle.judging.specs.code.Content.{content_by};
 ghost use Rattle.judging.specs.code.Judged.{kind_verdict, judged};
@@ -19,7 +19,7 @@ use operations::Operation;
 
 // The test of an operation's bytes: 8 where it may not have them.
 fn test_operation(operation: Operation, bytes: &[u8]) -> Outcome
-    ensures { result ≡ tested (operand_rows (anOperation operation) bytes.now) }
+    ensures { result ≡ tested (operand_rows (an_operation operation) bytes.now) }
 {
     if operations::allowed(operation, bytes) {
         return answers::done(0);
@@ -67,8 +67,8 @@ fn first_four(body: &[u8], count: usize) -> [u8; 4]
 
 // A short message: 7, then the tests of its bytes. The caller has the kind from its opcode.
 pub(crate) fn judge_short(kind: Short, body: &[u8], count: usize) -> Judged
-    requires { T (sized (ofShort kind)) × (count ≡ length (content_by count body.now)) }
-    ensures { result ≡ judged (kind_verdict (ofShort kind) (framed (content_by count body.now))) }
+    requires { T (sized (of_short kind)) × (count ≡ length (content_by count body.now)) }
+    ensures { result ≡ judged (kind_verdict (of_short kind) (framed (content_by count body.now))) }
 {
     if count + 2 != kind.length {
         return refused_by(WRONG_LENGTH);

@@ -11,7 +11,7 @@ use Rattle.answers.proofs.Rows.{first_passed, zero_silent, row_at_silent}
 use Rattle.answers.specs.promises.Decides.{Silent}
 use Rattle.streams.specs.Bytes.{framed}
 use Rattle.nibbles.specs.Nibbles.{pack, first_wide, wide_from}
-use Rattle.messages.specs.Kinds.{Kind, ofDump, ofShort, unknown, kind_of, opcode_of, Filed, size_of, length_of, is_unknown, count_of, master}
+use Rattle.messages.specs.Kinds.{Kind, of_dump, of_short, unknown, kind_of, opcode_of, Filed, size_of, length_of, is_unknown, count_of, master}
 use Rattle.messages.specs.code.Sizes.{packed_size}
 use Rattle.messages.specs.Judge.{byte_at, data_of, packed_of, data_rows, number_in, bytes_from, kind_rows, message_rows, record_of, judge}
 use Rattle.messages.proofs.Filed.{every_kind, found_filed, filed_sized}
@@ -50,32 +50,32 @@ accepted c z =
 
     by_its_kind : (k : Kind) → kind_of (byte_at (framed c) 3) ≡ k → is_unknown k ≡ false → Filed k → length (framed c) ≡ length_of k → Silent (kind_rows k (framed c))
         → judge (framed c) ≡ record_of k (framed c) → Accepted c
-    by_its_kind (ofDump k) q u f l s v =
+    by_its_kind (of_dump k) q u f l s v =
         let size = size_of k.packed in
-        let long : length c ≡ 5 + 2 * size = omega (arith, framed_length c, (filed_sized (ofDump k) f).0) in
+        let long : length c ≡ 5 + 2 * size = omega (arith, framed_length c, (filed_sized (of_dump k) f).0) in
         record {
           opcode = k.opcode;
           bytes = number_in k.behind (byte_at (framed c) 4);
           size = size;
           long = omega arith;
-          sized = ap packed_size (behind_device (ofDump k) q (omega arith));
+          sized = ap packed_size (behind_device (of_dump k) q (omega arith));
           found = ap packed_size f;
-          below = a_byte (ofDump k) q;
-          small = (filed_sized (ofDump k) f).1;
+          below = a_byte (of_dump k) q;
+          small = (filed_sized (of_dump k) f).1;
           verdict = rw (framed_data size c long) at v;
           narrow = rw (framed_data size c long) at (row_at_silent 9 (first_wide (data_of size (framed c))) s.1.0);
           fits = λ h. omega arith;
         }
-    by_its_kind (ofShort k) q u f l s v =
-        let long : 2 < length c = omega (arith, framed_length c, (filed_sized (ofShort k) f).0) in
+    by_its_kind (of_short k) q u f l s v =
+        let long : 2 < length c = omega (arith, framed_length c, (filed_sized (of_short k) f).0) in
         record {
           opcode = k.opcode;
           bytes = bytes_from (count_of k.operands) 4 (framed c);
           size = 0;
           long = long;
-          sized = ap packed_size (behind_device (ofShort k) q long);
+          sized = ap packed_size (behind_device (of_short k) q long);
           found = ap packed_size f;
-          below = a_byte (ofShort k) q;
+          below = a_byte (of_short k) q;
           small = omega arith;
           verdict = v;
           narrow = refl;

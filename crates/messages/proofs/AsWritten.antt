@@ -14,7 +14,7 @@ use Rattle.answers.specs.promises.Decides.{Silent}
 use Rattle.streams.specs.Bytes.{framed}
 use Rattle.nibbles.specs.Nibbles.{nibbles, pack, sum}
 use Rattle.nibbles.proofs.Laws.{length_pack, nibbles_pack}
-use Rattle.messages.specs.Kinds.{Dump, Short, Kind, ofDump, ofShort, unknown, opcode_of, kind_of, Filed, length_of, is_unknown, count_of}
+use Rattle.messages.specs.Kinds.{Dump, Short, Kind, of_dump, of_short, unknown, opcode_of, kind_of, Filed, length_of, is_unknown, count_of}
 use Rattle.messages.specs.Judge.{number_in, dump_rows, message_rows, kind_rows, record_of, judge}
 use Rattle.messages.specs.Layout.{message_of, dump, message, record_for, given_rows}
 use Rattle.messages.specs.promises.Given.{Given}
@@ -73,7 +73,7 @@ module _ (op : ℕ) (bytes packed : List ℕ) where
       }
 
   -- A dump of the right length that is accepted.
-  dump_again : (k : Dump) (r : List ℕ) → Filed (ofDump k) → length r ≡ 2 + 2 * size k → judge (message_of k.opcode r) ≡ done op bytes packed
+  dump_again : (k : Dump) (r : List ℕ) → Filed (of_dump k) → length r ≡ 2 + 2 * size k → judge (message_of k.opcode r) ≡ done op bytes packed
       → Accepted (message_of k.opcode r) (done op bytes packed)
   dump_again k [] f long e = absurd (omega arith)
   dump_again k (n ∷ w) f long e =
@@ -84,25 +84,25 @@ module _ (op : ℕ) (bytes packed : List ℕ) where
       let tested = sym (dump_tested k f n d s half) ∙ ap judge (sym whole) ∙ e in
       let passed = done_passed (dump_rows k n d s) (dump_record k n (pack d)) op bytes packed tested in
       let q = rows_passed k n d s passed.0 in
-      let size-packed : length (pack d) ≡ size k = omega (arith, length_pack d) in
+      let size_packed : length (pack d) ≡ size k = omega (arith, length_pack d) in
       let back = number_back k.behind n q.number in
       record {
-        kind = ofDump k;
+        kind = of_dump k;
         bytes = number_in k.behind n;
         packed = pack d;
         filed = f;
         given = numbered k.behind n;
         its_message = whole ∙ dump_back k n d s (nibbles_pack d (omega arith) q.narrow) q.summed ∙ rw back;
         its_record = sym passed.1;
-        passes = (rw (eq-eqb (length (pack d)) (size k) size-packed), (rw (back, q.number), q.packed));
+        passes = (rw (eq-eqb (length (pack d)) (size k) size_packed), (rw (back, q.number), q.packed));
       }
 
-  short_again : (k : Short) (r : List ℕ) → Filed (ofShort k) → Passed (ofShort k) k.opcode r → Accepted (message_of k.opcode r) (done op bytes packed)
+  short_again : (k : Short) (r : List ℕ) → Filed (of_short k) → Passed (of_short k) k.opcode r → Accepted (message_of k.opcode r) (done op bytes packed)
   short_again k r f p =
-      let l : length r ≡ count_of k.operands = omega (arith, p.long, (filed_sized (ofShort k) f).0) in
+      let l : length r ≡ count_of k.operands = omega (arith, p.long, (filed_sized (of_short k) f).0) in
       let b = framed_bytes (count_of k.operands) (0x10 ∷ 0x06 ∷ k.opcode ∷ r) (omega arith) in
       record {
-        kind = ofShort k;
+        kind = of_short k;
         bytes = r;
         packed = [];
         filed = f;
@@ -115,8 +115,8 @@ module _ (op : ℕ) (bytes packed : List ℕ) where
   -- A message of an opcode whose kind is k.
   by_its_kind : (k : Kind) (o : ℕ) (r : List ℕ) → o ≡ opcode_of k → Filed k → judge (message_of o r) ≡ done op bytes packed → Passed k o r
       → Accepted (message_of o r) (done op bytes packed)
-  by_its_kind (ofDump k) o r q f e p = rw q (dump_again k r f (omega (arith, p.long, (filed_sized (ofDump k) f).0)) (rw q at e))
-  by_its_kind (ofShort k) o r q f e p = rw q (short_again k r f (rw q at p))
+  by_its_kind (of_dump k) o r q f e p = rw q (dump_again k r f (omega (arith, p.long, (filed_sized (of_dump k) f).0)) (rw q at e))
+  by_its_kind (of_short k) o r q f e p = rw q (short_again k r f (rw q at p))
   by_its_kind unknown o r q f e p = let z = p.known in let y : ◌≡◌ {A = ℕ} 0 1 = cc in absurd (omega arith)
 
   -- A message that is accepted is one of our writers'.

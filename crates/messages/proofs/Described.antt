@@ -14,9 +14,9 @@ use Rattle.answers.specs.Effect.{tested}
 use Rattle.answers.proofs.Lists.{all_weaken}
 use Rattle.patch.specs.Patch.{half_from}
 use Rattle.operations.specs.declared.Operation.{Operation}
-use Rattle.operations.specs.declared.Operation.TheVariants.{Request as aRequest, Group as aGroup, Bank as aBank, Unlock as anUnlock, Store as aStore}
+use Rattle.operations.specs.declared.Operation.TheVariants.{Request as a_request, Group as a_group, Bank as a_bank, Unlock as an_unlock, Store as a_store}
 use Rattle.operations.specs.Operations.{bytes_of, allowed}
-use Rattle.messages.specs.Kinds.{Kind, ofDump, ofShort, split_patch, unknown, short_kind, anOperation, kinds, opcode_of, among, kind_of, Filed, is_unknown}
+use Rattle.messages.specs.Kinds.{Kind, of_dump, of_short, split_patch, unknown, short_kind, an_operation, kinds, opcode_of, among, kind_of, Filed, is_unknown}
 use Rattle.messages.specs.Judge.{byte_at, lent_operand_rows, judge}
 use Rattle.messages.specs.Layout.{message_of}
 use Rattle.messages.specs.promises.Described.{NeverSix, operation_verdict, Described}
@@ -25,7 +25,7 @@ use Rattle.messages.proofs.DumpLaws.{wrong_length}
 use Rattle.messages.proofs.Never.{never_given, known_6}
 
 -- The kind that 02H finds.
-found : (m : List ℕ) → byte_at m 3 ≡ 0x02 → kind_of (byte_at m 3) ≡ ofDump split_patch
+found : (m : List ℕ) → byte_at m 3 ≡ 0x02 → kind_of (byte_at m 3) ≡ of_dump split_patch
 unfolding kind_of
 found m e = rw e
 
@@ -42,7 +42,7 @@ all_known : All Known kinds
 unfolding kind_of
 all_known = (refl, (refl, (refl, (refl, (refl, (refl, (refl, (refl, (refl, (refl, (refl, tt)))))))))))
 
-operation : (opcode : ℕ) (o : Operation) → Filed (ofShort (short_kind opcode (anOperation o))) → (b : List ℕ)
+operation : (opcode : ℕ) (o : Operation) → Filed (of_short (short_kind opcode (an_operation o))) → (b : List ℕ)
     → judge (message_of opcode b) ≡ operation_verdict opcode o b
 unfolding judge
 operation opcode o f b = by_length (eqb (length b) (bytes_of o)) refl
@@ -66,7 +66,7 @@ operation opcode o f b = by_length (eqb (length b) (bytes_of o)) refl
         let other = eqb-false (length b) (bytes_of o) q in
         rw (f, q, ne_eqb (length m) (5 + bytes_of o) (λ e. other (omega (arith, size))))
 
-operation_given : (o : Operation) (b : List ℕ) → tested (lent_operand_rows (anOperation o) b) ≡ outcome_of (operation_verdict 0 o b)
+operation_given : (o : Operation) (b : List ℕ) → tested (lent_operand_rows (an_operation o) b) ≡ outcome_of (operation_verdict 0 o b)
 operation_given o b = by_tests (eqb (length b) (bytes_of o)) (allowed o b)
   where
     by_tests : (s t : Bool) → tested (row 7 (not s) ∷ row 8 (not t) ∷ [])
@@ -99,9 +99,9 @@ described = record {
   patch_lent = λ p. refl;
   operation_lengths = refl;
   operation_given = operation_given;
-  request = operation 0x04 aRequest refl;
-  group = operation 0x07 aGroup refl;
-  bank = operation 0x0A aBank refl;
-  unlock = operation 0x0C anUnlock refl;
-  store = operation 0x0E aStore refl;
+  request = operation 0x04 a_request refl;
+  group = operation 0x07 a_group refl;
+  bank = operation 0x0A a_bank refl;
+  unlock = operation 0x0C an_unlock refl;
+  store = operation 0x0E a_store refl;
 }

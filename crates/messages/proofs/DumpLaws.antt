@@ -17,7 +17,7 @@ use Rattle.answers.proofs.Rows.{Refusals, first_passed, zero_silent, row_silent,
 use Rattle.answers.specs.promises.Decides.{Silent}
 use Rattle.nibbles.specs.Nibbles.{nibbles, pack, sum, first_wide}
 use Rattle.nibbles.proofs.Laws.{length_nibbles, pack_nibbles, nibbles_narrow, not_wide, wide_none, wide_behind}
-use Rattle.messages.specs.Kinds.{Packed, Dump, ofDump, Filed, size_of}
+use Rattle.messages.specs.Kinds.{Packed, Dump, of_dump, Filed, size_of}
 use Rattle.messages.specs.Judge.{data_of, packed_of, sum_of, data_rows, misnumbered, number_in, packed_rows, sent_rows, dump_rows, judge}
 use Rattle.messages.specs.Layout.{message_of, dump}
 use Rattle.messages.proofs.Filed.{filed_sized}
@@ -81,12 +81,12 @@ rows_passed k n d s q = record {
   packed = q.1.1.1;
 }
 
-module _ (k : Dump) (filed : Filed (ofDump k)) (n : ℕ) where
+module _ (k : Dump) (filed : Filed (of_dump k)) (n : ℕ) where
   dump_judged : (w : List ℕ) (m : List ℕ) → m ≡ message_of k.opcode (n ∷ w)
       → judge m
       ≡ first (row 7 (not (eqb (length m) (7 + 2 * size k))) ∷ dump_rows k n (data_of (size k) m) (sum_of (size k) m)) (dump_record k n (packed_of (size k) m))
   unfolding judge
-  dump_judged w m e = rw (e, filed, (filed_sized (ofDump k) filed).0)
+  dump_judged w m e = rw (e, filed, (filed_sized (of_dump k) filed).0)
 
   -- A dump of another length is refused by 7.
   pub wrong_length : (w : List ℕ) → (length w ≡ 1 + 2 * size k → ⊥) → judge (message_of k.opcode (n ∷ w)) ≡ refused (outcome 7 0)

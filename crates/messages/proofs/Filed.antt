@@ -8,7 +8,7 @@ use lib.Dec.{T, eqb, eqb→eq, leb→le}
 use borrow.Author.Tests.{eqb-true, ne_eqb}
 use Rattle.answers.specs.Lists.{All}
 use Rattle.ranges.proofs.Below.{parts}
-use Rattle.messages.specs.Kinds.{Kind, ofDump, ofShort, unknown, kinds, opcode_of, among, kind_of, Filed, is_unknown, size_of, count_of, master}
+use Rattle.messages.specs.Kinds.{Kind, of_dump, of_short, unknown, kinds, opcode_of, among, kind_of, Filed, is_unknown, size_of, count_of, master}
 use Rattle.messages.specs.code.Sizes.{sized}
 
 among_all : (P : Kind → Type 0) → P unknown → (ks : List Kind) → All P ks → (o : ℕ) → P (among ks o)
@@ -56,13 +56,13 @@ found_filed o h = sym (ap kind_of (found_opcode o h))
 
 -- Each kind has the length that its parts add up to, and fits.
 abbrev pub Sized : Kind → Type 0
-Sized (ofDump k) = (k.length ≡ 7 + 2 * size_of k.packed) × (size_of k.packed ≤ master)
-Sized (ofShort k) = (k.length ≡ 5 + count_of k.operands) × (count_of k.operands ≤ 4)
+Sized (of_dump k) = (k.length ≡ 7 + 2 * size_of k.packed) × (size_of k.packed ≤ master)
+Sized (of_short k) = (k.length ≡ 5 + count_of k.operands) × (count_of k.operands ≤ 4)
 Sized unknown = Unit {0}
 
 pub is_sized : (k : Kind) → T (sized k) → Sized k
-is_sized (ofDump k) e = let q = parts (eqb k.length (7 + 2 * size_of k.packed)) _ e in (eqb→eq _ _ q.0, leb→le _ _ q.1)
-is_sized (ofShort k) e = let q = parts (eqb k.length (5 + count_of k.operands)) _ e in (eqb→eq _ _ q.0, leb→le _ _ q.1)
+is_sized (of_dump k) e = let q = parts (eqb k.length (7 + 2 * size_of k.packed)) _ e in (eqb→eq _ _ q.0, leb→le _ _ q.1)
+is_sized (of_short k) e = let q = parts (eqb k.length (5 + count_of k.operands)) _ e in (eqb→eq _ _ q.0, leb→le _ _ q.1)
 is_sized unknown e = tt
 
 pub kind_sized : (o : ℕ) → T (sized (kind_of o))

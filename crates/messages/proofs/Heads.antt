@@ -15,7 +15,7 @@ use Rattle.answers.proofs.Rows.{row_silent}
 use Rattle.streams.specs.Bytes.{framed}
 use Rattle.nibbles.proofs.Laws.{no_tail}
 use Rattle.ranges.proofs.Below.{parts}
-use Rattle.messages.specs.Kinds.{Dump, Kind, ofDump, ofShort, unknown, kinds}
+use Rattle.messages.specs.Kinds.{Dump, Kind, of_dump, of_short, unknown, kinds}
 use Rattle.messages.specs.Kinds.{Filed, kind_of, opcode_of, length_of, is_unknown}
 use Rattle.messages.specs.Judge.{misnumbered, kind_rows, judge}
 use Rattle.messages.specs.Layout.{message_of}
@@ -32,11 +32,11 @@ suffix_refused (x ∷ u) v (b ∷ d) s a e z = suffix_refused u v d s a.1 (tail-
 
 -- No short message is as long as a dump, and no two dumps of one length each take the other's opcode for the byte behind its own.
 abbrev apart : Kind → Kind → Bool
-apart (ofDump k) (ofDump m) =
+apart (of_dump k) (of_dump m) =
     (eqb k.opcode m.opcode || not (eqb k.length m.length)) || (misnumbered m.behind k.opcode || misnumbered k.behind m.opcode)
-apart (ofDump k) (ofShort m) = not (eqb k.length m.length)
-apart (ofDump k) unknown = true
-apart (ofShort k) m = true
+apart (of_dump k) (of_short m) = not (eqb k.length m.length)
+apart (of_dump k) unknown = true
+apart (of_short k) m = true
 apart unknown m = true
 
 abbrev apart_from : Kind → List Kind → Bool
@@ -47,13 +47,13 @@ each_apart : (k : Kind) (ms : List Kind) → T (apart_from k ms) → All (λ m. 
 each_apart k [] t = tt
 each_apart k (m ∷ ms) t = let q = parts (apart k m) (apart_from k ms) t in (q.0, each_apart k ms q.1)
 
-all_apart : (k : Dump) → Filed (ofDump k) → (o : ℕ) → T (apart (ofDump k) (kind_of o))
+all_apart : (k : Dump) → Filed (of_dump k) → (o : ℕ) → T (apart (of_dump k) (kind_of o))
 all_apart k f =
     let from_all = every_kind (λ a. T (apart_from a kinds)) tt (omega arith) k.opcode in
-    every_kind (λ m. T (apart (ofDump k) m)) tt (each_apart (ofDump k) kinds (subst (λ (a : Kind). T (apart_from a kinds)) f from_all))
+    every_kind (λ m. T (apart (of_dump k) m)) tt (each_apart (of_dump k) kinds (subst (λ (a : Kind). T (apart_from a kinds)) f from_all))
 
 -- So a dump with its opcode and the byte behind it exchanged is not accepted.
-pub opcode_exchanged : (k : Dump) → Filed (ofDump k) → (n : ℕ) → misnumbered k.behind n ≡ false → (k.opcode ≡ n → ⊥)
+pub opcode_exchanged : (k : Dump) → Filed (of_dump k) → (n : ℕ) → misnumbered k.behind n ≡ false → (k.opcode ≡ n → ⊥)
     → (w : List ℕ) → 6 + length w ≡ k.length → answer_of (judge (message_of n (k.opcode ∷ w))) ≡ 0 → ⊥
 opcode_exchanged k filed n number other w long z =
     let q = done_kind m z in
@@ -65,12 +65,12 @@ opcode_exchanged k filed n number other w long z =
     size : length m ≡ k.length
     size = omega (arith, length-append w (0xF7 ∷ []))
 
-    by_its_kind : (a : Kind) → n ≡ opcode_of a → is_unknown a ≡ false → length m ≡ length_of a → Silent (kind_rows a m) → T (apart (ofDump k) a) → ⊥
-    by_its_kind (ofDump a) e u l s t = rw (
+    by_its_kind : (a : Kind) → n ≡ opcode_of a → is_unknown a ≡ false → length m ≡ length_of a → Silent (kind_rows a m) → T (apart (of_dump k) a) → ⊥
+    by_its_kind (of_dump a) e u l s t = rw (
       ne_eqb k.opcode a.opcode (λ o. other (o ∙ sym e)),
       eq-eqb k.length a.length (sym size ∙ l),
       row_silent 8 (misnumbered a.behind k.opcode) s.0,
       rw e at number,
     ) at t
-    by_its_kind (ofShort a) e u l s t = rw (eq-eqb k.length a.length (sym size ∙ l)) at t
+    by_its_kind (of_short a) e u l s t = rw (eq-eqb k.length a.length (sym size ∙ l)) at t
     by_its_kind unknown e u l s t = let y : ◌≡◌ {A = ℕ} 0 1 = cc in omega arith

@@ -1,8 +1,8 @@
 -- A content longer than that of any kind comes to what its first three bytes say: maker, device and opcode are told by them, and then it is too long.
-use mathlib.Core.Path.{◌≡◌, refl, sym, ap, ◌∙◌}
+use mathlib.Core.Path.{◌≡◌, refl}
 use mathlib.Core.Bool.{Bool, true, false, not}
 use mathlib.Core.List.{List, [], ◌∷◌}
-use Prim.Native.Nat.{ℕ, suc, ◌+◌, ◌*◌, ◌≤◌, ◌<◌}
+use Prim.Native.Nat.{ℕ, ◌≤◌, ◌<◌}
 use native.Mathlib.Omega.{arith}
 use lib.Dec.{eqb, leb}
 use lib.ListN.{length, take, get_or}
@@ -10,15 +10,15 @@ use lib.Seq.{take_all, length-take-le, get_or-take}
 use borrow.Author.Tests.{ne_eqb, leb-true, leb-false}
 use Rattle.answers.specs.Table.{Verdict, refused, first, row, outcome}
 use Rattle.streams.specs.Bytes.{framed}
-use Rattle.messages.specs.Kinds.{Kind, ofDump, ofShort, unknown, kind_of, length_of, is_unknown, maker, device}
+use Rattle.messages.specs.Kinds.{Kind, of_dump, of_short, unknown, kind_of, length_of, is_unknown, maker, device}
 use Rattle.messages.specs.Judge.{byte_at, judge}
 use Rattle.messages.proofs.Filed.{Sized, is_sized, kind_sized}
 use Rattle.messages.proofs.Content.{framed_length, framed_byte}
 
 -- The longest message has 351 bytes.
 longest : (k : Kind) → Sized k → length_of k ≤ 351
-longest (ofDump k) s = omega arith
-longest (ofShort k) s = omega arith
+longest (of_dump k) s = omega arith
+longest (of_short k) s = omega arith
 longest unknown s = omega arith
 
 -- What is too long for its kind comes to, by the bytes of maker, device and opcode.

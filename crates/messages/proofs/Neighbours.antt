@@ -4,7 +4,7 @@
 use mathlib.Core.Path.{◌≡◌, refl, sym, ap, ◌∙◌}
 use mathlib.Core.Bool.{Bool, true, false, ◌&&◌, ◌||◌, cond}
 use mathlib.Core.List.{List, [], ◌∷◌, ◌++◌, append_assoc}
-use mathlib.Core.Logic.{◌⊎◌, inl, inr, ⊎_elim}
+use mathlib.Core.Logic.{inl, inr, ⊎_elim}
 use mathlib.Core.Option.{none, some}
 use Prim.Native.Nat.{ℕ, suc, ◌+◌, ◌*◌, ◌/◌, ◌%◌, ◌<◌}
 use native.Mathlib.Nat.{le_of_suc-le-suc}
@@ -27,7 +27,7 @@ use Rattle.ranges.proofs.Runs.{run_bytes}
 use Rattle.fields.specs.Fields.{fields, value_at}
 use Rattle.patch.specs.Patch.{first_out}
 use Rattle.patch.proofs.Runs.{fields_moved}
-use Rattle.messages.specs.Kinds.{aPatch, Dump, ofDump, Filed, size_of}
+use Rattle.messages.specs.Kinds.{a_patch, Dump, of_dump, Filed, size_of}
 use Rattle.messages.specs.Judge.{sent_rows, misnumbered, judge}
 use Rattle.messages.specs.Layout.{message_of}
 use Rattle.messages.specs.promises.Neighbours.{nibbles_refusal, replaced_refusal, exchanged_refusal}
@@ -35,10 +35,10 @@ use Rattle.messages.proofs.Numbers.{refused_number}
 use Rattle.messages.proofs.DumpLaws.{RefusedBy as RefusedAs, too_wide, wrong_sum, right_sum, dump_tested}
 
 abbrev RefusedBy : List ℕ → ℕ → Outcome → Type 0
-RefusedBy = RefusedAs aPatch
+RefusedBy = RefusedAs a_patch
 
 out_of_range : (d : List ℕ) (s k : ℕ) (w : ℤ) → All (λ b. b < 16) d → s ≡ sum (pack d) → first_out (pack d) ≡ some (found k w) → RefusedBy d s (outcome_at 11 k w)
-out_of_range d s k w a e f v = right_sum aPatch d s a e v ∙ rw f
+out_of_range d s k w a e f v = right_sum a_patch d s a e v ∙ rw f
 
 -- The low nibble l and the high one h, of the packed byte k, now l' and h': beside them the sum is t.
 nibbles_refused : (d : List ℕ) (s t k low l h l' h' : ℕ) → All (λ b. b < 16) d → l < 16 → h < 16 → l' < 16 → h' < 16
@@ -47,17 +47,17 @@ nibbles_refused : (d : List ℕ) (s t k low l h l' h' : ℕ) → All (λ b. b < 
 nibbles_refused d s t k low l h l' h' a n₁ n₂ n₃ n₄ was is other out v = go (eqb l' l) (eqb h' (h + 8)) (eqb h (h' + 8)) refl refl refl
   where
     go : (x y z : Bool) → eqb l' l ≡ x → eqb h' (h + 8) ≡ y → eqb h (h' + 8) ≡ z
-        → first (sent_rows aPatch d s) v ≡ refused (cond (x && (y || z)) (outcome_at 11 k (value_at k (low + 16 * h'))) (outcome 10 0))
-    go false y z q₁ q₂ q₃ = wrong_sum aPatch d s a (λ e. eqb-false l' l q₁ (missed t l h l' h' n₁ n₂ n₃ n₄ (sym was ∙ e ∙ is)).low) v
+        → first (sent_rows a_patch d s) v ≡ refused (cond (x && (y || z)) (outcome_at 11 k (value_at k (low + 16 * h'))) (outcome 10 0))
+    go false y z q₁ q₂ q₃ = wrong_sum a_patch d s a (λ e. eqb-false l' l q₁ (missed t l h l' h' n₁ n₂ n₃ n₄ (sym was ∙ e ∙ is)).low) v
     go true true z q₁ q₂ q₃ =
         let same = eqb-true l' l q₁ in let up = eqb-true h' (h + 8) q₂ in out_of_range d s k _ a (omega arith) (out same (inl up)) v
     go true false true q₁ q₂ q₃ =
         let same = eqb-true l' l q₁ in let down = eqb-true h (h' + 8) q₃ in out_of_range d s k _ a (omega arith) (out same (inr down)) v
     go true false false q₁ q₂ q₃ =
         let same = eqb-true l' l q₁ in
-        let not-up = eqb-false h' (h + 8) q₂ in
-        let not-down = eqb-false h (h' + 8) q₃ in
-        wrong_sum aPatch d s a (λ e. ⊎_elim (λ z. other (same, z)) (λ (m : MovedBy 8 h h'). ⊎_elim not-up not-down m)
+        let not_up = eqb-false h' (h + 8) q₂ in
+        let not_down = eqb-false h (h' + 8) q₃ in
+        wrong_sum a_patch d s a (λ e. ⊎_elim (λ z. other (same, z)) (λ (m : MovedBy 8 h h'). ⊎_elim not_up not_down m)
         (missed t l h l' h' n₁ n₂ n₃ n₄ (sym was ∙ e ∙ is)).high) v
 
 -- Of two bytes the first that is no nibble is told, else what is told of two nibbles.
@@ -66,16 +66,16 @@ nibbles_first : (u : List ℕ) (x y : ℕ) (w : List ℕ) (s : ℕ) (o : Outcome
 nibbles_first u x y w s o a t v = go (ltb 15 x) (ltb 15 y) refl refl
   where
     go : (b c : Bool) → ltb 15 x ≡ b → ltb 15 y ≡ c
-        → first (sent_rows aPatch (u ++ x ∷ y ∷ w) s) v ≡ refused (cond b (outcome 9 (length u)) (cond c (outcome 9 (suc (length u))) o))
-    go true c q r = too_wide aPatch u x (y ∷ w) s a (ltb-true 15 x q) v
+        → first (sent_rows a_patch (u ++ x ∷ y ∷ w) s) v ≡ refused (cond b (outcome 9 (length u)) (cond c (outcome 9 (suc (length u))) o))
+    go true c q r = too_wide a_patch u x (y ∷ w) s a (ltb-true 15 x q) v
     go false true q r =
         let one : length (u ++ (x ∷ [])) ≡ suc (length u) = omega (arith, length-append u (x ∷ [])) in
         let small = ltb-false 15 x q in
         rw (append_snoc u x (y ∷ w), one) at
-        (too_wide aPatch (u ++ (x ∷ [])) y w s (all_append (λ b. b < 16) u (x ∷ []) a (omega arith, tt)) (ltb-true 15 y r) v)
+        (too_wide a_patch (u ++ (x ∷ [])) y w s (all_append (λ b. b < 16) u (x ∷ []) a (omega arith, tt)) (ltb-true 15 y r) v)
     go false false q r =
-        let x-small = ltb-false 15 x q in
-        let y-small = ltb-false 15 y r in
+        let x_small = ltb-false 15 x q in
+        let y_small = ltb-false 15 y r in
         t (omega arith) (omega arith) v
 
 -- Two nibbles exchanged leave the sum wrong: not even a high one alone has moved.
@@ -87,7 +87,7 @@ nibbles_exchanged j low a b ha hb other =
     go true = refl
     go false = refl
 
-module _ (k : Dump) (filed : Filed (ofDump k)) (patch : k.packed ≡ aPatch) (p : List ℕ) (l : length p ≡ 134) (ok : first_out p ≡ none) where
+module _ (k : Dump) (filed : Filed (of_dump k)) (patch : k.packed ≡ a_patch) (p : List ℕ) (l : length p ≡ 134) (ok : first_out p ≡ none) where
   -- A dump with the bytes w behind its opcode and the byte n comes to 8, by n, or else to o.
   pub record Comes (n : ℕ) (w : List ℕ) (o : Outcome) : Type 0 where
     pub to : judge (message_of k.opcode (n ∷ w)) ≡ unless (says (row 8 (misnumbered k.behind n))) (refused o)
@@ -182,8 +182,8 @@ module _ (k : Dump) (filed : Filed (ofDump k)) (patch : k.packed ≡ aPatch) (p 
       front : All (λ b. b < 16) u
       front = front_narrow p₁ c [] e
 
-      go : (t : Bool) → ltb 15 (sum p) ≡ t → first (sent_rows aPatch (u ++ (sum p ∷ [])) (c / 16)) v ≡ refused (cond t (outcome 9 (length u)) (outcome 10 0))
-      go true q = too_wide aPatch u (sum p) [] (c / 16) front (ltb-true 15 (sum p) q) v
+      go : (t : Bool) → ltb 15 (sum p) ≡ t → first (sent_rows a_patch (u ++ (sum p ∷ [])) (c / 16)) v ≡ refused (cond t (outcome 9 (length u)) (outcome 10 0))
+      go true q = too_wide a_patch u (sum p) [] (c / 16) front (ltb-true 15 (sum p) q) v
       go false q =
           let d = u ++ (sum p ∷ []) in
           let small = ltb-false 15 (sum p) q in
@@ -192,7 +192,7 @@ module _ (k : Dump) (filed : Filed (ofDump k)) (patch : k.packed ≡ aPatch) (p 
           let packed = rw (← (append_snoc (nibbles p₁) (c % 16) (sum p ∷ []))) at (pack_pair p₁ [] (c % 16) (sum p)) in
           let was : sum p ≡ (t + (c % 16 + 16 * (c / 16))) % 128 = rw e (omega (arith, sum_around p₁ c [])) in
           let is : sum (pack d) ≡ (t + (c % 16 + 16 * sum p)) % 128 = rw packed (sum_around p₁ (c % 16 + 16 * sum p) []) in
-          wrong_sum aPatch d (c / 16) (all_append (λ b. b < 16) u (sum p ∷ []) front (omega arith, tt))
+          wrong_sum a_patch d (c / 16) (all_append (λ b. b < 16) u (sum p ∷ []) front (omega arith, tt))
           (λ z. other (sums_exchanged t (c % 16) (c / 16) (sum p) (omega arith) (omega arith) was (z ∙ is))) v
 
   abbrev sent : List ℕ
@@ -232,8 +232,8 @@ module _ (k : Dump) (filed : Filed (ofDump k)) (patch : k.packed ≡ aPatch) (p 
           let front = nibbles p₁ ++ ((c % 16) ∷ []) in
           let r = x ∷ y ∷ (c' / 16) ∷ nibbles p₂ in
           let same : u ++ x ∷ y ∷ v ≡ (front ++ r) ++ (sum p ∷ []) = rw (e₁, e₄, append_assoc front r (sum p ∷ [])) in
-          let long-front : suc (length (nibbles p₁)) ≡ length front = omega (arith, length-append (nibbles p₁) ((c % 16) ∷ [])) in
-          let low : low_before n front ≡ c % 16 = get_or_at (n ∷ nibbles p₁) (c % 16) [] 0 (length front) long-front in
+          let long_front : suc (length (nibbles p₁)) ≡ length front = omega (arith, length-append (nibbles p₁) ((c % 16) ∷ [])) in
+          let low : low_before n front ≡ c % 16 = get_or_at (n ∷ nibbles p₁) (c % 16) [] 0 (length front) long_front in
           comes n (u ++ x ∷ y ∷ v) (front ++ r) (sum p) _ same long (rw (e₁, e₂, e₃, low) (across_refused p₁ c c' p₂ x y e₀ (rw (e₂, e₃) at other)))
       go (at_end p₁ c e₀ e₁ e₂ e₃ e₄) =
           absurd (omega (arith, ap length e₀, ap length e₁, length-append (nibbles p₁) ((c % 16) ∷ []), length_nibbles p₁, length-append p₁ (c ∷ [])))
@@ -276,4 +276,4 @@ module _ (k : Dump) (filed : Filed (ofDump k)) (patch : k.packed ≡ aPatch) (p 
           let narrow = nibbles_narrow p (run_bytes fields 0 p ok) in
           let same : u ++ y ∷ v ≡ nibbles p ++ (y ∷ []) = rw (e₁, e₃) in
           comes_refused (comes n (u ++ y ∷ v) (nibbles p) y (outcome 10 0) same (long_still u (x ∷ []) v (y ∷ []) e refl)
-          (wrong_sum aPatch (nibbles p) y narrow (λ z. other (z ∙ ap sum (pack_nibbles p) ∙ sym e₂))))
+          (wrong_sum a_patch (nibbles p) y narrow (λ z. other (z ∙ ap sum (pack_nibbles p) ∙ sym e₂))))

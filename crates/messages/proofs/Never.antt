@@ -12,7 +12,7 @@ use Rattle.answers.proofs.Lists.{all_weaken}
 use Rattle.answers.proofs.Rows.{Without, never_answered}
 use Rattle.nibbles.specs.Nibbles.{pack}
 use Rattle.patch.specs.Patch.{half_from}
-use Rattle.messages.specs.Kinds.{Dump, Kind, ofDump, split_patch, master_parameters, shape_of, size_of, kind_of, is_unknown}
+use Rattle.messages.specs.Kinds.{Dump, Kind, of_dump, split_patch, master_parameters, shape_of, size_of, kind_of, is_unknown}
 use Rattle.messages.specs.Judge.{byte_at, data_of, data_rows, packed_rows, kind_rows, message_rows, record_of, judge}
 use Rattle.messages.specs.Layout.{given_rows}
 use Rattle.messages.specs.code.Sizes.{lent_rows}
@@ -20,15 +20,15 @@ use Rattle.messages.specs.promises.Never.{NeverFor, NeverGiven}
 use Rattle.messages.proofs.Numbers.{kind_numbers, IsDone, made, record_done}
 
 module _ (n : ℕ) (above : 10 < n) (k : Dump) (own : (p : List ℕ) → All (Without n) (packed_rows k.packed p)) where
-  kind_without : (m : List ℕ) → All (Without n) (kind_rows (ofDump k) m)
+  kind_without : (m : List ℕ) → All (Without n) (kind_rows (of_dump k) m)
   unfolding data_rows
   kind_without m = (inr (λ z. omega arith), (inr (λ z. omega arith), (inr (λ z. omega arith), own (pack (data_of (size_of k.packed) m)))))
 
-  message_without : (m : List ℕ) → kind_of (byte_at m 3) ≡ ofDump k → All (Without n) (message_rows m)
+  message_without : (m : List ℕ) → kind_of (byte_at m 3) ≡ of_dump k → All (Without n) (message_rows m)
   message_without m e =
       (inr (λ z. omega arith), (inr (λ z. omega arith), (inr (λ z. omega arith), (inr (λ z. omega arith), rw e (kind_without m)))))
 
-  never_read : (m : List ℕ) → kind_of (byte_at m 3) ≡ ofDump k → answer_of (judge m) ≡ n → ⊥
+  never_read : (m : List ℕ) → kind_of (byte_at m 3) ≡ of_dump k → answer_of (judge m) ≡ n → ⊥
   unfolding judge
   never_read m e z = go (record_done (kind_of (byte_at m 3)) m)
     where
@@ -39,7 +39,7 @@ module _ (n : ℕ) (above : 10 < n) (k : Dump) (own : (p : List ℕ) → All (Wi
   never = record {
     read = never_read;
     written = λ b p.
-        never_answered n (λ f. omega arith) (given_rows (ofDump k) b p) (inr (λ z. omega arith), (inr (λ z. omega arith), own p)) 0 [] [];
+        never_answered n (λ f. omega arith) (given_rows (of_dump k) b p) (inr (λ z. omega arith), (inr (λ z. omega arith), own p)) 0 [] [];
     lent = λ p. never_answered n (λ f. omega arith) (lent_rows k.packed p) (inr (λ z. omega arith), own p) 0 [] [];
   }
 

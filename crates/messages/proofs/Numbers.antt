@@ -14,7 +14,7 @@ use Rattle.answers.specs.promises.Decides.{Silent}
 use Rattle.nibbles.specs.Nibbles.{pack}
 use Rattle.edits.specs.Edits.{edit_rows, bus_rows}
 use Rattle.answers.specs.declared.Outcome.{Outcome}
-use Rattle.messages.specs.Kinds.{Packed, Dump, Operands, anEdit, aBusEdit, anOperation, Kind, ofDump, ofShort, unknown}
+use Rattle.messages.specs.Kinds.{Packed, Dump, Operands, an_edit, a_bus_edit, an_operation, Kind, of_dump, of_short, unknown}
 use Rattle.messages.specs.Kinds.{count_of, kind_of, size_of, length_of, is_unknown}
 use Rattle.messages.specs.Judge.{byte_at, data_of, data_rows, packed_rows, operand_rows, bytes_from, kind_rows, message_rows, record_of, judge}
 use Rattle.messages.specs.promises.Numbers.{InTable, RefusedNumbers}
@@ -29,15 +29,15 @@ packed_numbers q p = omega arith
 
 operand_numbers : (o : Operands) (b : List ℕ) → OwnRows (operand_rows o b)
 unfolding edit_rows bus_rows
-operand_numbers anEdit b = omega arith
-operand_numbers aBusEdit b = omega arith
-operand_numbers (anOperation o) b = omega arith
+operand_numbers an_edit b = omega arith
+operand_numbers a_bus_edit b = omega arith
+operand_numbers (an_operation o) b = omega arith
 
 pub kind_numbers : (k : Kind) (m : List ℕ) → OwnRows (kind_rows k m)
 unfolding data_rows
-kind_numbers (ofDump k) m =
+kind_numbers (of_dump k) m =
     (omega arith, (omega arith, (omega arith, packed_numbers k.packed (pack (data_of (size_of k.packed) m)))))
-kind_numbers (ofShort k) m = operand_numbers k.operands (bytes_from (count_of k.operands) 4 m)
+kind_numbers (of_short k) m = operand_numbers k.operands (bytes_from (count_of k.operands) 4 m)
 kind_numbers unknown m = tt
 
 -- They are listed numbers.
@@ -52,8 +52,8 @@ dump_given_numbers : (k : Dump) (n : ℕ) (p : List ℕ) → RowsInTable (dump_g
 dump_given_numbers k n p = (omega arith, (omega arith, listed (packed_rows k.packed p) (packed_numbers k.packed p)))
 
 given_numbers : (k : Kind) (b p : List ℕ) → RowsInTable (given_rows k b p)
-given_numbers (ofDump k) b p = dump_given_numbers k (behind_for k.behind b) p
-given_numbers (ofShort k) b p = (omega arith, listed (operand_rows k.operands b) (operand_numbers k.operands b))
+given_numbers (of_dump k) b p = dump_given_numbers k (behind_for k.behind b) p
+given_numbers (of_short k) b p = (omega arith, listed (operand_rows k.operands b) (operand_numbers k.operands b))
 given_numbers unknown b p = tt
 
 -- So is that of every row of the table.
@@ -87,8 +87,8 @@ pub data IsDone (v : Verdict) : Type 0 where
 
 -- A message's record is one.
 pub record_done : (k : Kind) (m : List ℕ) → IsDone (record_of k m)
-record_done (ofDump k) m = made _ _ _ refl
-record_done (ofShort k) m = made _ _ _ refl
+record_done (of_dump k) m = made _ _ _ refl
+record_done (of_short k) m = made _ _ _ refl
 record_done unknown m = made _ _ _ refl
 
 -- A refused message has a listed number.

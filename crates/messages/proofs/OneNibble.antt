@@ -25,11 +25,11 @@ use Rattle.ranges.specs.promises.Tables.{Apart}
 use Rattle.ranges.proofs.Between.{MovedBy}
 use Rattle.ranges.proofs.Runs.{runs_moved}
 use Rattle.fields.specs.Fields.{fields}
-use Rattle.fields.proofs.Rules.{rows, apart as fields-apart}
+use Rattle.fields.proofs.Rules.{rows, apart as fields_apart}
 use Rattle.splits.specs.Splits.{split_fields}
-use Rattle.splits.proofs.Rule.{rule as split-rule}
+use Rattle.splits.proofs.Rule.{rule as split_rule}
 use Rattle.patch.specs.Patch.{half_from}
-use Rattle.messages.specs.Kinds.{anyBytes, Dump, ofDump, single_patch, split_patch, master_parameters, edit_buffer, master, shape_of, Filed, kind_of}
+use Rattle.messages.specs.Kinds.{any_bytes, Dump, of_dump, single_patch, split_patch, master_parameters, edit_buffer, master, shape_of, Filed, kind_of}
 use Rattle.messages.specs.Judge.{misnumbered, packed_rows, sent_rows, byte_at, judge}
 use Rattle.messages.specs.Layout.{message_of, dump, message, record_for, behind_for, given_rows}
 use Rattle.messages.specs.promises.OneNibble.{with_nibble, moved_by128, nibble_verdict, AsWritten, Replaced, nibble_refusal, RefusedNibble}
@@ -57,7 +57,7 @@ not_moved c c' e m =
     go true = refl
     go false = refl
 
-module _ (k : Dump) (filed : Filed (ofDump k)) (n : ℕ) (number : misnumbered k.behind n ≡ false)
+module _ (k : Dump) (filed : Filed (of_dump k)) (n : ℕ) (number : misnumbered k.behind n ≡ false)
     (p : List ℕ) (l : length p ≡ size k) (bytes : All (λ b. b < 256) p) where
   -- The dump with the bytes w behind n.
   abbrev comes : List ℕ → Verdict
@@ -221,12 +221,12 @@ module _ (op n : ℕ) (sent u : List ℕ) (x : ℕ) (v : List ℕ) (i : ℕ) (e 
   replaced y = ap (λ (w : List ℕ). set w (5 + i) y) whole ∙ set_at start x (v ++ (0xF7 ∷ [])) y (5 + i) place ∙ sym (parted y)
 
 -- A dump as our writer writes it.
-module _ (k : Dump) (filed : Filed (ofDump k)) (b p : List ℕ) (passes : Silent (given_rows (ofDump k) b p)) (bytes : All (λ b. b < 256) p) where
+module _ (k : Dump) (filed : Filed (of_dump k)) (b p : List ℕ) (passes : Silent (given_rows (of_dump k) b p)) (bytes : All (λ b. b < 256) p) where
   abbrev n : ℕ
   n = behind_for k.behind b
 
   abbrev m : List ℕ
-  m = message (ofDump k) b p
+  m = message (of_dump k) b p
 
   number : misnumbered k.behind n ≡ false
   number = row_silent 8 (misnumbered k.behind n) passes.1.0
@@ -261,7 +261,7 @@ module _ (k : Dump) (filed : Filed (ofDump k)) (b p : List ℕ) (passes : Silent
         rw (replaced k.opcode n sent (take i sent) (get_or sent i 0) (drop (suc i) sent) i cut before y)
         (rw before at (by_position k filed n number p long_packed bytes _ _ _ y stands (omega (arith, before)) (rw same at ne)))
 
-module _ (k : Dump) (filed : Filed (ofDump k)) (b p : List ℕ) (w : AsWritten k b p) where
+module _ (k : Dump) (filed : Filed (of_dump k)) (b p : List ℕ) (w : AsWritten k b p) where
   fields_in : out_by (shape_of k.packed).table p ≡ none
   fields_in = row_found_silent 11 _ w.passes.1.1.0
 
@@ -299,13 +299,13 @@ module _ (k : Dump) (filed : Filed (ofDump k)) (b p : List ℕ) (w : AsWritten k
 
         go : (s u : Bool) → moved_by128 c c' ≡ u
             → cond s (refused (outcome 9 i))
-            (cond u (first (packed_rows k.packed (set p (i / 2) c')) (record_for (ofDump k) b (set p (i / 2) c'))) (refused (outcome 10 0)))
+            (cond u (first (packed_rows k.packed (set p (i / 2) c')) (record_for (of_dump k) b (set p (i / 2) c'))) (refused (outcome 10 0)))
             ≡ refused (cond s (outcome 9 i) (cond u (outcome_at 11 (i / 2) (value_in t (i / 2) c')) (outcome 10 0)))
         go true u q = refl
         go false true q = moved_refused (i / 2) c' inside (moved c c' q) _
         go false false q = refl
 
-with_table : (k : Dump) (t : Table) → Filed (ofDump k) → (shape_of k.packed).table ≡ some t → length t ≡ size k → Apart t → RefusedNibble k t
+with_table : (k : Dump) (t : Table) → Filed (of_dump k) → (shape_of k.packed).table ≡ some t → length t ≡ size k → Apart t → RefusedNibble k t
 with_table k t filed has fits apart b p w =
     tabled k filed b p w t has apart (long_packed k filed b p w.passes (all_bytes k filed b p w) ∙ sym fits)
 
@@ -325,12 +325,12 @@ high_moved i y c x hy e = go (eqb (i % 2) 0) refl e
           (λ z. ⊎_elim (λ u. inl (omega arith)) (λ u. inr (omega arith)) z.1),
         )
 
-any_bytes : (k : Dump) (count : ℕ) → Filed (ofDump k) → k.packed ≡ anyBytes count → AcceptedNibble k
+bytes_of_any : (k : Dump) (count : ℕ) → Filed (of_dump k) → k.packed ≡ any_bytes count → AcceptedNibble k
 unfolding half_from
-any_bytes k count filed any b p bytes passes i y h hy ne =
+bytes_of_any k count filed any b p bytes passes i y h hy ne =
     let all = rw any at bytes in
     let c' = with_nibble i y (get_or p (i / 2) 0) in
-    let exactly = high_moved i y (get_or p (i / 2) 0) (byte_at (message (ofDump k) b p) (5 + i)) hy (nibble_there k filed b p passes all i h) in
+    let exactly = high_moved i y (get_or p (i / 2) 0) (byte_at (message (of_dump k) b p) (5 + i)) hy (nibble_there k filed b p passes all i h) in
     rw (with_other k filed b p passes all i h y ne, le-ltb 15 y (le_of_suc-le-suc hy), any)
     (by_move (get_or p (i / 2) 0) c' _ (dump_record k (behind_for k.behind b) (set p (i / 2) c')) refl exactly)
   where
@@ -348,9 +348,9 @@ unfolding kind_of
 one_nibble = record {
   every_dump = λ k filed b p w. every k filed b p w;
   with_table = with_table;
-  split = with_table split_patch split_fields refl refl split-rule.rows split-rule.apart;
-  patch = with_table single_patch fields refl refl rows fields-apart;
-  to_edit_buffer = with_table edit_buffer fields refl refl rows fields-apart;
-  any_bytes = any_bytes;
-  master = any_bytes master_parameters master refl refl;
+  split = with_table split_patch split_fields refl refl split_rule.rows split_rule.apart;
+  patch = with_table single_patch fields refl refl rows fields_apart;
+  to_edit_buffer = with_table edit_buffer fields refl refl rows fields_apart;
+  bytes_of_any = bytes_of_any;
+  master = bytes_of_any master_parameters master refl refl;
 }

@@ -26,8 +26,8 @@ use Rattle.edits.specs.Edits.{extended, edit_rows, bus_rows}
 use Rattle.operations.specs.Operations.{allowed}
 use Rattle.operations.proofs.Numbers.{allowed_seven}
 use Rattle.edits.proofs.Tests.{rows_at, rows_nowhere, value_small, bus_number, bus_amount, bus_bytes}
-use Rattle.messages.specs.Kinds.{Behind, numberTo, always, Operands, anEdit, aBusEdit, anOperation, Short}
-use Rattle.messages.specs.Kinds.{Kind, ofDump, ofShort, unknown, count_of, shape_of, size_of, opcode_of, Filed}
+use Rattle.messages.specs.Kinds.{Behind, number_to, always, Operands, an_edit, a_bus_edit, an_operation, Short}
+use Rattle.messages.specs.Kinds.{Kind, of_dump, of_short, unknown, count_of, shape_of, size_of, opcode_of, Filed}
 use Rattle.messages.specs.Judge.{misnumbered, number_in, operand_rows, judge}
 use Rattle.messages.specs.Layout.{message_of, dump, behind_for, message, record_for, given_rows}
 use Rattle.messages.specs.promises.Given.{Numbered, Given, AllBytes, BytesIn}
@@ -45,12 +45,12 @@ dump_data op n p o h a =
     (omega arith, (omega arith, (o, (h, all_append (λ b. b < 0x80) (nibbles p) (sum p ∷ []) nibbled (sum_below p, tt)))))
 
 -- A short message whose rows say nothing is accepted.
-pub short_accepted : (k : Short) → Filed (ofShort k) → (b : List ℕ) → length b ≡ count_of k.operands → Silent (operand_rows k.operands b)
+pub short_accepted : (k : Short) → Filed (of_short k) → (b : List ℕ) → length b ≡ count_of k.operands → Silent (operand_rows k.operands b)
     → judge (message_of k.opcode b) ≡ done k.opcode b []
 unfolding judge
 short_accepted k f b l a =
     let m = message_of k.opcode b in
-    let right : length m ≡ k.length = omega (arith, length-append b (0xF7 ∷ []), (filed_sized (ofShort k) f).0) in
+    let right : length m ≡ k.length = omega (arith, length-append b (0xF7 ∷ []), (filed_sized (of_short k) f).0) in
     let same = framed_bytes (count_of k.operands) (0x10 ∷ 0x06 ∷ k.opcode ∷ b) (omega arith) in
     rw (f, eq-eqb (length m) k.length right, same) (first_passed (operand_rows k.operands b) (done k.opcode b []) a)
 
@@ -78,49 +78,49 @@ bus_data b s a d q =
     omega arith
 
 abbrev greatest_of : Behind → ℕ
-greatest_of (numberTo greatest) = greatest
+greatest_of (number_to greatest) = greatest
 greatest_of (always byte) = byte
 
 -- What stands behind the device of a message that passes its tests is below 80H: opcode, number, a short message's bytes.
 abbrev pub SevenBits : Kind → Type 0
-SevenBits (ofDump k) = (k.opcode < 0x80) × ((n : ℕ) → misnumbered k.behind n ≡ false → n < 0x80)
-SevenBits (ofShort k) =
+SevenBits (of_dump k) = (k.opcode < 0x80) × ((n : ℕ) → misnumbered k.behind n ≡ false → n < 0x80)
+SevenBits (of_short k) =
     (k.opcode < 0x80) × ((b : List ℕ) → length b ≡ count_of k.operands → Silent (operand_rows k.operands b) → All (λ x. x < 0x80) b)
 SevenBits unknown = Unit {0}
 
 number_seven : (b : Behind) → greatest_of b < 0x80 → (n : ℕ) → misnumbered b n ≡ false → n < 0x80
-number_seven (numberTo greatest) h n e = omega (arith, ltb-false greatest n e)
+number_seven (number_to greatest) h n e = omega (arith, ltb-false greatest n e)
 number_seven (always byte) h n e = omega (arith, eqb-true n byte (not-false (eqb n byte) e))
 
 operands_seven : (o : Operands) (b : List ℕ) → length b ≡ count_of o → Silent (operand_rows o b) → All (λ x. x < 0x80) b
-operands_seven anEdit b l a = rw (spelled b 2 l) (edit_data (get_or b 0 0) (get_or b 1 0) a)
-operands_seven aBusEdit b l a = rw (spelled b 4 l) (bus_data (get_or b 0 0) (get_or b 1 0) (get_or b 2 0) (get_or b 3 0) a)
-operands_seven (anOperation o) b l a = allowed_seven o b (not-false (allowed o b) (row_silent 8 (not (allowed o b)) a.0))
+operands_seven an_edit b l a = rw (spelled b 2 l) (edit_data (get_or b 0 0) (get_or b 1 0) a)
+operands_seven a_bus_edit b l a = rw (spelled b 4 l) (bus_data (get_or b 0 0) (get_or b 1 0) (get_or b 2 0) (get_or b 3 0) a)
+operands_seven (an_operation o) b l a = allowed_seven o b (not-false (allowed o b) (row_silent 8 (not (allowed o b)) a.0))
 
 abbrev Small : Kind → Type 0
-Small (ofDump k) = (k.opcode < 0x80) × (greatest_of k.behind < 0x80)
-Small (ofShort k) = k.opcode < 0x80
+Small (of_dump k) = (k.opcode < 0x80) × (greatest_of k.behind < 0x80)
+Small (of_short k) = k.opcode < 0x80
 Small unknown = Unit {0}
 
 pub seven_bits : (k : Kind) → Filed k → SevenBits k
 seven_bits k f = go k (subst Small f (every_kind Small tt (omega arith) (opcode_of k)))
   where
     go : (k : Kind) → Small k → SevenBits k
-    go (ofDump k) s = (s.0, number_seven k.behind s.1)
-    go (ofShort k) s = (s, operands_seven k.operands)
+    go (of_dump k) s = (s.0, number_seven k.behind s.1)
+    go (of_short k) s = (s, operands_seven k.operands)
     go unknown s = tt
 
 -- The number that comes with the answer is the byte behind the opcode, and back.
 pub number_given : (x : Behind) (b : List ℕ) → Numbered x b → number_in x (behind_for x b) ≡ b
-number_given (numberTo greatest) b l = sym (spelled b 1 l)
+number_given (number_to greatest) b l = sym (spelled b 1 l)
 number_given (always byte) b e = sym e
 
 pub number_back : (x : Behind) (n : ℕ) → misnumbered x n ≡ false → behind_for x (number_in x n) ≡ n
-number_back (numberTo greatest) n e = refl
+number_back (number_to greatest) n e = refl
 number_back (always byte) n e = sym (eqb-true n byte (not-false (eqb n byte) e))
 
 pub numbered : (x : Behind) (n : ℕ) → Numbered x (number_in x n)
-numbered (numberTo greatest) n = refl
+numbered (number_to greatest) n = refl
 numbered (always byte) n = refl
 
 -- The packed bytes that a writer takes are bytes.
@@ -138,21 +138,21 @@ pub record Sound (k : Kind) (b p : List ℕ) : Type 0 where
 -- What a writer takes makes such a message.
 pub sound : (k : Kind) (b p : List ℕ) → Filed k → Given k b p → BytesIn k p → Silent (given_rows k b p) → Sound k b p
 unfolding dump
-sound (ofDump k) b p f g u a =
+sound (of_dump k) b p f g u a =
     let n = behind_for k.behind b in
     let l = row_equal 7 (length p) (size_of k.packed) a.0 in
     let number = row_silent 8 (misnumbered k.behind n) a.1.0 in
     let table = (shape_of k.packed).table in
     let bytes = packed_bytes table p u (row_found_silent 11 (out_by table p) a.1.1.0) in
-    let small = seven_bits (ofDump k) f in
+    let small = seven_bits (of_dump k) f in
     record {
       content = dump_content k.opcode n p;
       bytes = refl;
       seven = dump_data k.opcode n p small.0 (small.1 n number) bytes;
       accepted = dump_accepted k f n p number l bytes a.1.1 ∙ ap (λ (x : List ℕ). done k.opcode x p) (number_given k.behind b g);
     }
-sound (ofShort k) b p f g u a =
-    let small = seven_bits (ofShort k) f in
+sound (of_short k) b p f g u a =
+    let small = seven_bits (of_short k) f in
     let l = row_equal 7 (length b) (count_of k.operands) a.0 in
     record {
       content = 0x10 ∷ 0x06 ∷ k.opcode ∷ b;

@@ -7,8 +7,8 @@ use Rattle.ranges.specs.Ranges.{out_by}
 use Rattle.patch.specs.Patch.{half_from}
 use Rattle.edits.specs.Edits.{edit_rows, bus_rows}
 use Rattle.operations.specs.Operations.{allowed}
-use Rattle.messages.specs.Kinds.{maker, device, Behind, numberTo, always, Packed, Dump, Operands, anEdit, aBusEdit, anOperation}
-use Rattle.messages.specs.Kinds.{Kind, ofDump, ofShort, unknown, kind_of, count_of, shape_of, size_of, length_of, is_unknown}
+use Rattle.messages.specs.Kinds.{maker, device, Behind, number_to, always, Packed, Dump, Operands, an_edit, a_bus_edit, an_operation}
+use Rattle.messages.specs.Kinds.{Kind, of_dump, of_short, unknown, kind_of, count_of, shape_of, size_of, length_of, is_unknown}
 
 -- The byte at place i of a message, F0H at 0.
 abbrev pub byte_at : List ℕ → ℕ → ℕ
@@ -30,12 +30,12 @@ data_rows d s = row_at 9 (first_wide d) ∷ row 10 (not (eqb s (sum (pack d)))) 
 
 -- The test of the byte behind a dump's opcode: 8.
 abbrev pub misnumbered : Behind → ℕ → Bool
-misnumbered (numberTo greatest) n = ltb greatest n
+misnumbered (number_to greatest) n = ltb greatest n
 misnumbered (always byte) n = not (eqb n byte)
 
 -- The bytes that come with a dump's answer: its number.
 abbrev pub number_in : Behind → ℕ → List ℕ
-number_in (numberTo greatest) n = n ∷ []
+number_in (number_to greatest) n = n ∷ []
 number_in (always byte) n = []
 
 -- The tests of a dump's packed bytes: 11 by their table, 12 by their buses.
@@ -52,9 +52,9 @@ dump_rows k n d s = row 8 (misnumbered k.behind n) ∷ sent_rows k.packed d s
 
 -- The tests of a short message's bytes: an edit's own; 8 where an operation may not have them.
 abbrev pub operand_rows : Operands → List ℕ → List Row
-operand_rows anEdit b = edit_rows (get_or b 0 0) (get_or b 1 0)
-operand_rows aBusEdit b = bus_rows (get_or b 0 0) (get_or b 1 0) (get_or b 2 0) (get_or b 3 0)
-operand_rows (anOperation o) b = row 8 (not (allowed o b)) ∷ []
+operand_rows an_edit b = edit_rows (get_or b 0 0) (get_or b 1 0)
+operand_rows a_bus_edit b = bus_rows (get_or b 0 0) (get_or b 1 0) (get_or b 2 0) (get_or b 3 0)
+operand_rows (an_operation o) b = row 8 (not (allowed o b)) ∷ []
 
 -- The same of a short message's bytes as they are lent to a routine: another count of them is 7.
 abbrev pub lent_operand_rows : Operands → List ℕ → List Row
@@ -62,16 +62,16 @@ lent_operand_rows o b = row 7 (not (eqb (length b) (count_of o))) ∷ operand_ro
 
 -- The tests of each kind behind its length.
 abbrev pub kind_rows : Kind → List ℕ → List Row
-kind_rows (ofDump k) m =
+kind_rows (of_dump k) m =
     let size = size_of k.packed in
     dump_rows k (byte_at m 4) (data_of size m) (sum_of size m)
-kind_rows (ofShort k) m = operand_rows k.operands (bytes_from (count_of k.operands) 4 m)
+kind_rows (of_short k) m = operand_rows k.operands (bytes_from (count_of k.operands) 4 m)
 kind_rows unknown m = []
 
 -- The record of a message that passes: opcode, the number or the bytes as received, packed bytes.
 abbrev pub record_of : Kind → List ℕ → Verdict
-record_of (ofDump k) m = done k.opcode (number_in k.behind (byte_at m 4)) (packed_of (size_of k.packed) m)
-record_of (ofShort k) m = done k.opcode (bytes_from (count_of k.operands) 4 m) []
+record_of (of_dump k) m = done k.opcode (number_in k.behind (byte_at m 4)) (packed_of (size_of k.packed) m)
+record_of (of_short k) m = done k.opcode (bytes_from (count_of k.operands) 4 m) []
 record_of unknown m = done 0 [] []
 
 -- The table of a kind, from 6 on.

@@ -3,7 +3,7 @@ use Rattle.std.specs.Prelude.{not, List, [], ◌∷◌, ◌++◌, ℕ, eqb, leng
 use Rattle.answers.specs.Table.{Row, row, Verdict, done}
 use Rattle.streams.specs.Bytes.{framed}
 use Rattle.nibbles.specs.Nibbles.{nibbles, sum}
-use Rattle.messages.specs.Kinds.{maker, device, Behind, numberTo, always, Dump, Kind, ofDump, ofShort, unknown, opcode_of, size_of}
+use Rattle.messages.specs.Kinds.{maker, device, Behind, number_to, always, Dump, Kind, of_dump, of_short, unknown, opcode_of, size_of}
 use Rattle.messages.specs.Judge.{misnumbered, packed_rows, lent_operand_rows}
 
 -- F0H 10H 06H, the opcode, its bytes, F7H.
@@ -16,13 +16,13 @@ dump opcode number packed = message_of opcode (number ∷ (nibbles packed ++ (su
 
 -- The byte behind a dump's opcode: the number that comes with the answer, or always the same.
 abbrev pub behind_for : Behind → List ℕ → ℕ
-behind_for (numberTo greatest) b = get_or b 0 0
+behind_for (number_to greatest) b = get_or b 0 0
 behind_for (always byte) b = byte
 
 -- A message of a kind, with the bytes b that come with the answer and a dump's packed bytes p.
 abbrev pub message : Kind → List ℕ → List ℕ → List ℕ
-message (ofDump k) b p = dump k.opcode (behind_for k.behind b) p
-message (ofShort k) b p = message_of k.opcode b
+message (of_dump k) b p = dump k.opcode (behind_for k.behind b) p
+message (of_short k) b p = message_of k.opcode b
 message unknown b p = []
 
 -- Its record.
@@ -35,6 +35,6 @@ dump_given k n p = row 7 (not (eqb (length p) (size_of k.packed))) ∷ row 8 (mi
 
 -- What a writer tests of what it is given; of a short message the count of its bytes, then their tests.
 abbrev pub given_rows : Kind → List ℕ → List ℕ → List Row
-given_rows (ofDump k) b p = dump_given k (behind_for k.behind b) p
-given_rows (ofShort k) b p = lent_operand_rows k.operands b
+given_rows (of_dump k) b p = dump_given k (behind_for k.behind b) p
+given_rows (of_short k) b p = lent_operand_rows k.operands b
 given_rows unknown b p = []

@@ -55,9 +55,9 @@ nibbles_pack [] e a = refl
 nibbles_pack (low ∷ []) e a = absurd (omega arith)
 nibbles_pack (low ∷ high ∷ ns) e a =
     let h = a.0 in
-    let low-back : (low + 16 * high) % 16 ≡ low = omega arith in
-    let high-back : (low + 16 * high) / 16 ≡ high = omega arith in
-    rw (low-back, high-back, nibbles_pack ns (omega arith) a.1.1)
+    let low_back : (low + 16 * high) % 16 ≡ low = omega arith in
+    let high_back : (low + 16 * high) / 16 ≡ high = omega arith in
+    rw (low_back, high_back, nibbles_pack ns (omega arith) a.1.1)
 
 -- The nibbles of bytes below 256 are below 16.
 pub nibbles_narrow : (p : List ℕ) → All (λ b. b < 256) p → All (λ b. b < 16) (nibbles p)
@@ -122,8 +122,8 @@ found k (b ∷ ns) i e = by (ltb 15 b) refl e (found (suc k) ns i)
 finds : (k : ℕ) (ns : List ℕ) (j : ℕ) → FirstWideAt ns j → wide_from k ns ≡ some (k + j)
 finds k [] j f = let w = f.within in absurd (omega arith)
 finds k (b ∷ ns) zero f =
-    let none-added : k ≡ k + 0 = omega arith in
-    wide_here k b ns f.wide ∙ ap some none-added
+    let none_added : k ≡ k + 0 = omega arith in
+    wide_here k b ns f.wide ∙ ap some none_added
 finds k (b ∷ ns) (suc j) f =
     let w = f.within in
     let moved : suc k + j ≡ k + suc j = omega arith in

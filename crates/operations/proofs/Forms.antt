@@ -6,7 +6,7 @@ use Prim.Native.Nat.{ℕ}
 use native.Mathlib.Omega.{arith}
 use lib.ListN.{length}
 use Rattle.answers.specs.Lists.{All}
-use Rattle.operations.specs.Operations.{Operation, aRequest, aGroup, aBank, anUnlock, aStore, Values, has, bytes_of, forms_of, has_form, has_one, allowed}
+use Rattle.operations.specs.Operations.{Operation, a_request, a_group, a_bank, an_unlock, a_store, Values, has, bytes_of, forms_of, has_form, has_one, allowed}
 
 pub alone : (t : Bool) → t ≡ ((t && true) || false)
 alone true = refl
@@ -21,11 +21,11 @@ abbrev AsMany : ℕ → List Values → Type 0
 AsMany n f = length f ≡ n
 
 forms_counted : (o : Operation) → All (AsMany (bytes_of o)) (forms_of o)
-forms_counted aRequest = (refl, (refl, (refl, (refl, tt))))
-forms_counted aGroup = (refl, tt)
-forms_counted aBank = (refl, tt)
-forms_counted anUnlock = (refl, tt)
-forms_counted aStore = (refl, (refl, tt))
+forms_counted a_request = (refl, (refl, (refl, (refl, tt))))
+forms_counted a_group = (refl, tt)
+forms_counted a_bank = (refl, tt)
+forms_counted an_unlock = (refl, tt)
+forms_counted a_store = (refl, (refl, tt))
 
 -- Bytes of another count have no form.
 other_length : (f : List Values) (b : List ℕ) → (length b ≡ length f → ⊥) → has_form f b ≡ false

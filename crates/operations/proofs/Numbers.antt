@@ -9,7 +9,7 @@ use lib.Dec.{eqb, leb}
 use lib.ListN.{length}
 use borrow.Author.Tests.{eqb-true, eqb-false, leb-true, eq-eqb, le-leb}
 use Rattle.answers.specs.Lists.{All}
-use Rattle.operations.specs.Operations.{Operation, aRequest, aGroup, aBank, anUnlock, aStore, Values, only, up_to, between, has}
+use Rattle.operations.specs.Operations.{Operation, a_request, a_group, a_bank, an_unlock, a_store, Values, only, up_to, between, has}
 use Rattle.operations.specs.Operations.{bytes_of, forms_of, has_form, has_one, allowed}
 use Rattle.operations.specs.promises.Allowed.{Allowed}
 use Rattle.operations.proofs.Forms.{other_count}
@@ -115,11 +115,11 @@ one_seven (f ∷ fs) b a (inl m) = form_seven f b a.0 m
 one_seven (f ∷ fs) b a (inr m) = one_seven fs b a.1 m
 
 forms_seven : (o : Operation) → All DataForm (forms_of o)
-forms_seven aRequest = omega arith
-forms_seven aGroup = omega arith
-forms_seven aBank = omega arith
-forms_seven anUnlock = omega arith
-forms_seven aStore = omega arith
+forms_seven a_request = omega arith
+forms_seven a_group = omega arith
+forms_seven a_bank = omega arith
+forms_seven an_unlock = omega arith
+forms_seven a_store = omega arith
 
 pub allowed_seven : (o : Operation) (b : List ℕ) → allowed o b ≡ true → DataBytes b
 allowed_seven o b e = one_seven (forms_of o) b (forms_seven o) (allowed_met o b e)
@@ -139,33 +139,33 @@ counted o b e = by (eqb (length b) (bytes_of o)) refl
 abbrev Request : ℕ → ℕ → Type 0
 Request k n = ((k ≡ 1) × (n ≤ 99)) ⊎ (((k ≡ 0) ⊎ ((k ≡ 3) ⊎ (k ≡ 4))) × (n ≡ 0))
 
-request : (k n : ℕ) → OneMet (forms_of aRequest) (k ∷ n ∷ []) → Request k n
+request : (k n : ℕ) → OneMet (forms_of a_request) (k ∷ n ∷ []) → Request k n
 request k n (inl m) = inr (inl m.0, m.1.0)
 request k n (inr (inl m)) = inl (m.0, m.1.0)
 request k n (inr (inr (inl m))) = inr (inr (inl m.0), m.1.0)
 request k n (inr (inr (inr (inl m)))) = inr (inr (inr m.0), m.1.0)
 request k n (inr (inr (inr (inr m)))) = absurd m
 
-requested : (k n : ℕ) → Request k n → OneMet (forms_of aRequest) (k ∷ n ∷ [])
+requested : (k n : ℕ) → Request k n → OneMet (forms_of a_request) (k ∷ n ∷ [])
 requested k n (inl q) = inr (inl (q.0, (q.1, tt)))
 requested k n (inr (inl e, z)) = inl (e, (z, tt))
 requested k n (inr (inr (inl e), z)) = inr (inr (inl (e, (z, tt))))
 requested k n (inr (inr (inr e), z)) = inr (inr (inr (inl (e, (z, tt)))))
 
-group : (t i : ℕ) → OneMet (forms_of aGroup) (t ∷ i ∷ []) → (2 ≤ t) × (t ≤ 6) × (i ≤ 5)
+group : (t i : ℕ) → OneMet (forms_of a_group) (t ∷ i ∷ []) → (2 ≤ t) × (t ≤ 6) × (i ≤ 5)
 group t i (inl m) = (m.0.0, m.0.1, m.1.0)
 group t i (inr m) = absurd m
 
-bank : (b : ℕ) → OneMet (forms_of aBank) (b ∷ []) → b ≤ 9
+bank : (b : ℕ) → OneMet (forms_of a_bank) (b ∷ []) → b ≤ 9
 bank b (inl m) = m.0
 bank b (inr m) = absurd m
 
-store : (n b i : ℕ) → OneMet (forms_of aStore) (n ∷ b ∷ i ∷ []) → (n ≤ 99) × (b ≤ 9) × ((i ≤ 5) ⊎ (i ≡ 0x7F))
+store : (n b i : ℕ) → OneMet (forms_of a_store) (n ∷ b ∷ i ∷ []) → (n ≤ 99) × (b ≤ 9) × ((i ≤ 5) ⊎ (i ≡ 0x7F))
 store n b i (inl m) = (m.0, m.1.0, inl m.1.1.0)
 store n b i (inr (inl m)) = (m.0, m.1.0, inr m.1.1.0)
 store n b i (inr (inr m)) = absurd m
 
-stored : (n b i : ℕ) → (n ≤ 99) × (b ≤ 9) × ((i ≤ 5) ⊎ (i ≡ 0x7F)) → OneMet (forms_of aStore) (n ∷ b ∷ i ∷ [])
+stored : (n b i : ℕ) → (n ≤ 99) × (b ≤ 9) × ((i ≤ 5) ⊎ (i ≡ 0x7F)) → OneMet (forms_of a_store) (n ∷ b ∷ i ∷ [])
 stored n b i (p, q, inl m) = inl (p, (q, (m, tt)))
 stored n b i (p, q, inr m) = inr (inl (p, (q, (m, tt))))
 
@@ -176,12 +176,12 @@ six (inr h) = omega arith
 
 pub in_numbers : Allowed
 in_numbers = record {
-  request = λ k n. (λ e. request k n (allowed_met aRequest (k ∷ n ∷ []) e), λ q. met_allowed aRequest (k ∷ n ∷ []) (requested k n q));
-  group = λ t i. (λ e. group t i (allowed_met aGroup (t ∷ i ∷ []) e), λ q. met_allowed aGroup (t ∷ i ∷ []) (inl ((q.0, q.1), (q.2, tt))));
-  bank = λ b. (λ e. bank b (allowed_met aBank (b ∷ []) e), λ q. met_allowed aBank (b ∷ []) (inl (q, tt)));
-  unlock = met_allowed anUnlock [] (inl tt);
-  store = λ n b i. (λ e. store n b i (allowed_met aStore (n ∷ b ∷ i ∷ []) e), λ q. met_allowed aStore (n ∷ b ∷ i ∷ []) (stored n b i q));
-  group_6 = λ t. not_true_false _ (λ e. six (inl (group t 6 (allowed_met aGroup (t ∷ 6 ∷ []) e)).2));
-  store_6 = λ n b. not_true_false _ (λ e. six (store n b 6 (allowed_met aStore (n ∷ b ∷ 6 ∷ []) e)).2);
+  request = λ k n. (λ e. request k n (allowed_met a_request (k ∷ n ∷ []) e), λ q. met_allowed a_request (k ∷ n ∷ []) (requested k n q));
+  group = λ t i. (λ e. group t i (allowed_met a_group (t ∷ i ∷ []) e), λ q. met_allowed a_group (t ∷ i ∷ []) (inl ((q.0, q.1), (q.2, tt))));
+  bank = λ b. (λ e. bank b (allowed_met a_bank (b ∷ []) e), λ q. met_allowed a_bank (b ∷ []) (inl (q, tt)));
+  unlock = met_allowed an_unlock [] (inl tt);
+  store = λ n b i. (λ e. store n b i (allowed_met a_store (n ∷ b ∷ i ∷ []) e), λ q. met_allowed a_store (n ∷ b ∷ i ∷ []) (stored n b i q));
+  group_6 = λ t. not_true_false _ (λ e. six (inl (group t 6 (allowed_met a_group (t ∷ 6 ∷ []) e)).2));
+  store_6 = λ n b. not_true_false _ (λ e. six (store n b 6 (allowed_met a_store (n ∷ b ∷ 6 ∷ []) e)).2);
   counted = counted;
 }

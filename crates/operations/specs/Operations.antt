@@ -1,7 +1,7 @@
 -- The five operations (02 (vii)): what stands behind their opcode, by source document 000.
 use Rattle.std.specs.Prelude.{Bool, true, false, ◌&&◌, ◌||◌, List, [], ◌∷◌, ℕ, eqb, leb}
 pub use Rattle.operations.specs.declared.Operation.{Operation}
-pub use Rattle.operations.specs.declared.Operation.TheVariants.{Request as aRequest, Group as aGroup, Bank as aBank, Unlock as anUnlock, Store as aStore}
+pub use Rattle.operations.specs.declared.Operation.TheVariants.{Request as a_request, Group as a_group, Bank as a_bank, Unlock as an_unlock, Store as a_store}
 
 -- The last patch of a bank, the last bank, the last ID of a unit in a group, and the ID that is for any unit of it.
 abbrev pub last_patch : ℕ
@@ -29,27 +29,27 @@ has (between least greatest) b = leb least b && leb b greatest
 
 -- How many bytes an operation has.
 abbrev pub bytes_of : Operation → ℕ
-bytes_of aRequest = 2
-bytes_of aGroup = 2
-bytes_of aBank = 1
-bytes_of anUnlock = 0
-bytes_of aStore = 3
+bytes_of a_request = 2
+bytes_of a_group = 2
+bytes_of a_bank = 1
+bytes_of an_unlock = 0
+bytes_of a_store = 3
 
 -- The forms that they may have, byte by byte.
 abbrev pub forms_of : Operation → List (List Values)
 -- Type and number: all patches and the master; one patch; the master; the edit buffer.
-forms_of aRequest =
+forms_of a_request =
     (only 0 ∷ only 0 ∷ []) ∷
     (only 1 ∷ up_to last_patch ∷ []) ∷
     (only 3 ∷ only 0 ∷ []) ∷
     (only 4 ∷ only 0 ∷ []) ∷ []
 -- The total of units, and the ID.
-forms_of aGroup = (between 2 6 ∷ up_to last_unit ∷ []) ∷ []
+forms_of a_group = (between 2 6 ∷ up_to last_unit ∷ []) ∷ []
 -- The bank.
-forms_of aBank = (up_to last_bank ∷ []) ∷ []
-forms_of anUnlock = [] ∷ []
+forms_of a_bank = (up_to last_bank ∷ []) ∷ []
+forms_of an_unlock = [] ∷ []
 -- The number, the bank and the ID: of one unit, or of any.
-forms_of aStore =
+forms_of a_store =
     (up_to last_patch ∷ up_to last_bank ∷ up_to last_unit ∷ []) ∷
     (up_to last_patch ∷ up_to last_bank ∷ only any_unit ∷ []) ∷ []
 

@@ -2,7 +2,7 @@
 #![tactic(auto)]
 
 ghost use Rattle.std.specs.Prelude.{◌≡◌, [], ◌∷◌, get_or};
-ghost use Rattle.operations.specs.Operations.{aRequest, aGroup, aStore, bytes_of, allowed as allowedFor};
+ghost use Rattle.operations.specs.Operations.{a_request, a_group, a_store, bytes_of, allowed as allowed_for};
 
 // Request data, set group mode, set bank, unlock bank, store edit buffer.
 #[derive(Clone, Copy)]
@@ -52,7 +52,7 @@ pub fn count_of(operation: Operation) -> usize
 
 // A patch has a number; everything else that can be requested has 0 in its place.
 fn request_allowed(kind: u8, number: u8) -> bool
-    ensures { result ≡ allowedFor aRequest (kind ∷ number ∷ []) }
+    ensures { result ≡ allowed_for a_request (kind ∷ number ∷ []) }
 {
     match kind {
         EVERYTHING => number == 0,
@@ -65,7 +65,7 @@ fn request_allowed(kind: u8, number: u8) -> bool
 
 // The total of units, and the ID of the one that hears it.
 fn group_allowed(total: u8, id: u8) -> bool
-    ensures { result ≡ allowedFor aGroup (total ∷ id ∷ []) }
+    ensures { result ≡ allowed_for a_group (total ∷ id ∷ []) }
 {
     if total < FEWEST_UNITS {
         return false;
@@ -78,7 +78,7 @@ fn group_allowed(total: u8, id: u8) -> bool
 
 // The ID is that of a unit, or of any.
 fn store_allowed(number: u8, bank: u8, id: u8) -> bool
-    ensures { result ≡ allowedFor aStore (number ∷ bank ∷ id ∷ []) }
+    ensures { result ≡ allowed_for a_store (number ∷ bank ∷ id ∷ []) }
 {
     if LAST_PATCH < number {
         return false;
@@ -104,7 +104,7 @@ fn byte_or_zero(bytes: &[u8], i: usize) -> u8
 
 // The bytes are as many as the operation has, and their values are allowed.
 pub fn allowed(operation: Operation, bytes: &[u8]) -> bool
-    ensures { result ≡ allowedFor operation bytes.now }
+    ensures { result ≡ allowed_for operation bytes.now }
 {
     if bytes.len() != count_of(operation) {
         return false;

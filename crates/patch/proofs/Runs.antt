@@ -1,5 +1,5 @@
 -- What the table's rules make of a patch without a field out of range.
-use Rattle.std.proofs.Common.{◌≡◌, ℕ, ◌+◌, List, ◌∷◌, ◌++◌, length, zero-add, arith}
+use Rattle.std.proofs.Common.{◌≡◌, ℕ, List, ◌∷◌, ◌++◌, length, zero-add, arith}
 use mathlib.Core.Option.{none, some}
 use Rattle.answers.specs.Table.{found}
 use Rattle.ranges.proofs.Between.{MovedBy}

@@ -21,7 +21,7 @@ use Rattle.streams.proofs.Complete.{data_bytes, walk_framed, complete}
 use Rattle.patch.specs.Patch.{patch_rows}
 use Rattle.patch.proofs.Tests.{patch_length}
 use Rattle.messages.specs.declared.kinds.Kind.{Kind}
-use Rattle.messages.specs.declared.kinds.Kind.TheVariants.{Dump as ofDump}
+use Rattle.messages.specs.declared.kinds.Kind.TheVariants.{Dump as of_dump}
 use Rattle.messages.specs.declared.kinds.Dump.{Dump}
 use Rattle.messages.specs.Kinds.{kind_of, opcode_of, single_patch, edit_buffer, Filed}
 use Rattle.messages.specs.promises.Given.{Given, BytesIn}
@@ -88,21 +88,21 @@ opcodes o e = go (eqb o.answer 0) (eqb o.detail 1) (eqb o.detail 13) refl refl r
     go false u v p q r e = let z : ◌≡◌ {A = ℕ} 0 1 = cc in absurd (omega arith)
 
 -- The packed bytes of a message with one of these opcodes are a good patch.
-kind_1 : kind_of 1 ≡ ofDump single_patch
+kind_1 : kind_of 1 ≡ of_dump single_patch
 unfolding kind_of
 kind_1 = refl
 
-kind_13 : kind_of 13 ≡ ofDump edit_buffer
+kind_13 : kind_of 13 ≡ of_dump edit_buffer
 unfolding kind_of
 kind_13 = refl
 
 given_patch : (k : Kind) (b p : List ℕ) → kind_of (opcode_of k) ≡ k → (opcode_of k ≡ 1) ⊎ (opcode_of k ≡ 13) → Silent (given_rows k b p) → Silent (patch_rows p)
 given_patch k b p f (inl e) s =
-    let is : k ≡ ofDump single_patch = sym f ∙ ap kind_of e ∙ kind_1 in
+    let is : k ≡ of_dump single_patch = sym f ∙ ap kind_of e ∙ kind_1 in
     let t = subst (λ (j : Kind). Silent (given_rows j b p)) is s in
     (t.0, t.1.1)
 given_patch k b p f (inr e) s =
-    let is : k ≡ ofDump edit_buffer = sym f ∙ ap kind_of e ∙ kind_13 in
+    let is : k ≡ of_dump edit_buffer = sym f ∙ ap kind_of e ∙ kind_13 in
     let t = subst (λ (j : Kind). Silent (given_rows j b p)) is s in
     (t.0, t.1.1)
 
@@ -237,14 +237,14 @@ said_stands s old new r h y =
     )
 
 -- A file with a dump as our writer writes it.
-module _ (k : Dump) (b p : List ℕ) (f : Filed (ofDump k)) (g : Given (ofDump k) b p) (t : BytesIn (ofDump k) p) (d : is_patch_dump (outcome 0 k.opcode) ≡ true)
-    (q : Silent (given_rows (ofDump k) b p)) (l : length p ≡ 134) (n : length (message (ofDump k) b p) ≤ 65536) where
+module _ (k : Dump) (b p : List ℕ) (f : Filed (of_dump k)) (g : Given (of_dump k) b p) (t : BytesIn (of_dump k) p) (d : is_patch_dump (outcome 0 k.opcode) ≡ true)
+    (q : Silent (given_rows (of_dump k) b p)) (l : length p ≡ 134) (n : length (message (of_dump k) b p) ≤ 65536) where
   abbrev file : List ℕ
-  file = message (ofDump k) b p
+  file = message (of_dump k) b p
 
-  found_there : stream.walk judge file 0 ≡ some (stream.report 0 (length file) (record_for (ofDump k) b p) 0)
+  found_there : stream.walk judge file 0 ≡ some (stream.report 0 (length file) (record_for (of_dump k) b p) 0)
   found_there =
-      let c = sound (ofDump k) b p f g t q in
+      let c = sound (of_dump k) b p f g t q in
       let walked-there = walk_framed judge [] c.content [] (data_bytes c.content c.seven) in
       let whole : [] ++ (framed c.content ++ []) ≡ file = append-nil (framed c.content) ∙ sym c.bytes in
       let size : 0 + length (framed c.content) ≡ length file = omega (arith, ap length c.bytes) in
@@ -263,7 +263,7 @@ module _ (k : Dump) (b p : List ℕ) (f : Filed (ofDump k)) (g : Given (ofDump k
       let next : Report = record { start = end; end = end; outcome = outcome 1 0; noise = 0 } in (
         by_quiet file n r (sym (ap (report_or end) found_there)) (λ z. omega arith) d next (sym (ap (report_or end) none_stand_behind)) refl true true
             (quiet_end file 0 0 (omega arith)) (quiet_past file end end (omega arith)),
-        reads_patch file (stream.report 0 end (record_for (ofDump k) b p) 0) k.opcode b p found_there refl l,
+        reads_patch file (stream.report 0 end (record_for (of_dump k) b p) 0) k.opcode b p found_there refl l,
       )
 
 -- Both kinds of patch dump are.
@@ -273,13 +273,13 @@ dump_short op m p l =
     let n = nibbles p in
     omega (arith, length_nibbles p, length-append (n ++ (sum p ∷ [])) (0xF7 ∷ []), length-append n (sum p ∷ []))
 
-numbered_found : (m : ℕ) (p : List ℕ) → Good p → m ≤ 99 → Holds (message (ofDump single_patch) (m ∷ []) p) p
+numbered_found : (m : ℕ) (p : List ℕ) → Good p → m ≤ 99 → Holds (message (of_dump single_patch) (m ∷ []) p) p
 numbered_found m p g h =
     let s = good_silent p g in
     let l = patch_length p s in
     one_found single_patch (m ∷ []) p kind_1 refl tt refl (s.0, (rw (le-ltb 99 m h), s.1)) l (dump_short 1 m p l)
 
-edit_buffer_found : (p : List ℕ) → Good p → Holds (message (ofDump edit_buffer) [] p) p
+edit_buffer_found : (p : List ℕ) → Good p → Holds (message (of_dump edit_buffer) [] p) p
 edit_buffer_found p g =
     let s = good_silent p g in
     let l = patch_length p s in

@@ -29,7 +29,7 @@ module _ (t : Table) (p : List ℕ) where
           let l = (lowest_out t 0 p).some_out j v e in
           let here : j - 0 ≡ j = omega arith in
           let out = rw here at l.out in
-          let in-range = h j l.from (omega (arith, l.below)) in
+          let in_range = h j l.from (omega (arith, l.below)) in
           let z : ◌≡◌ {A = ℕ} 0 1 = cc in
           absurd (omega arith)
 
@@ -51,6 +51,6 @@ module _ (t : Table) (p : List ℕ) where
       go (some f) e = refl
       go none e =
           let here : j - 0 ≡ j = omega arith in
-          let in-range = rw here at ((lowest_out t 0 p).none_out e j (omega arith) (omega arith)) in
+          let in_range = rw here at ((lowest_out t 0 p).none_out e j (omega arith) (omega arith)) in
           let y : ◌≡◌ {A = ℕ} 0 1 = cc in
           absurd (omega arith)

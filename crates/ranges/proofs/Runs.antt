@@ -122,8 +122,8 @@ module _ (t : Table) where
           let other = eqb-false j k q in
           let past : suc k ≤ j = omega (arith, l.from) in
           let next : (i : ℕ) → suc k ≤ i → i - k ≡ suc (i - suc k) = λ i h. omega arith in
-          let zero-here : k - k ≡ 0 = omega arith in
-          let here = rw zero-here at (l.before k (omega arith) (omega arith)) in
+          let zero_here : k - k ≡ 0 = omega arith in
+          let here = rw zero_here at (l.before k (omega arith) (omega arith)) in
           rw here (later (record {
             from = past;
             below = omega (arith, l.below);

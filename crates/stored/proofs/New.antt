@@ -221,10 +221,10 @@ module _ (t : List ℕ) (bytes : All (λ b. b < 256) t) (h : Headed t) where
   its_unit e =
       let s = its_records in
       let rs = records_of (number_at t 0) (number_at t 2) t in
-      let behind-it = all_right (λ b. b < 256) (take patches_at t) (drop patches_at t) (rw (take-append-drop patches_at t) bytes) in
+      let behind_it = all_right (λ b. b < 256) (take patches_at t) (drop patches_at t) (rw (take-append-drop patches_at t) bytes) in
       record {
         form = rw (s.last, s.patches) (le-leb (number_at t 0) patches_most h.few);
-        good = all_good rs (all_pass rs patches_at e) (rw s.bytes behind-it);
+        good = all_good rs (all_pass rs patches_at e) (rw s.bytes behind_it);
       }
 
 -- A file that is read as records, none of them bad, is a unit's new file.

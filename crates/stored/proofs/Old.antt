@@ -28,7 +28,7 @@ use Rattle.nibbles.proofs.Laws.{length_nibbles}
 use Rattle.fields.specs.Fields.{size}
 use Rattle.messages.specs.declared.kinds.Dump.{Dump}
 use Rattle.messages.specs.declared.kinds.Kind.{Kind}
-use Rattle.messages.specs.declared.kinds.Kind.TheVariants.{Dump as ofDump}
+use Rattle.messages.specs.declared.kinds.Kind.TheVariants.{Dump as of_dump}
 use Rattle.messages.specs.Kinds.{master, size_of, single_patch, master_parameters, opcode_of, kind_of, Filed}
 use Rattle.messages.specs.Judge.{judge}
 use Rattle.messages.specs.Layout.{dump, record_for}
@@ -77,7 +77,7 @@ narrow_bytes [] a = tt
 narrow_bytes (b ∷ p) a = let h = a.0 in let l = a.1.0 in (omega arith, narrow_bytes p a.1.1)
 
 -- So are those of a dump that is accepted.
-dump_bytes : (k : Dump) → Filed (ofDump k) → (n : ℕ) (p : List ℕ) → length p ≡ size_of k.packed → answer_of (judge (dump k.opcode n p)) ≡ 0
+dump_bytes : (k : Dump) → Filed (of_dump k) → (n : ℕ) (p : List ℕ) → length p ≡ size_of k.packed → answer_of (judge (dump k.opcode n p)) ≡ 0
     → All (λ b. b < 256) p
 unfolding dump
 dump_bytes k f n p l z = narrow_bytes p (dump_passed k f n (nibbles p) (sum p) (omega (arith, length_nibbles p)) z).narrow
@@ -105,10 +105,10 @@ of_kind k b p r f g e = go (eqb (opcode_of k) 1) (eqb (opcode_of k) 3) refl refl
     go : (t u : Bool) → eqb (opcode_of k) 1 ≡ t → eqb (opcode_of k) 3 ≡ u
         → cond t (some (of_patch (get_or b 0 0) p)) (cond u (some (of_master p)) none) ≡ some r → OfKind k b p r
     go true u q v e =
-        let patch : k ≡ ofDump single_patch = sym f ∙ ap kind_of (eqb-true (opcode_of k) 1 q) in
+        let patch : k ≡ of_dump single_patch = sym f ∙ ap kind_of (eqb-true (opcode_of k) 1 q) in
         subst (OfKind k b p) (some-injective _ r e) (record { kind = patch; number = spelled b 1 (rw patch at g); packed = refl })
     go false true q v e =
-        let master : k ≡ ofDump master_parameters = sym f ∙ ap kind_of (eqb-true (opcode_of k) 3 v) in
+        let master : k ≡ of_dump master_parameters = sym f ∙ ap kind_of (eqb-true (opcode_of k) 3 v) in
         subst (OfKind k b p) (some-injective _ r e) (record { kind = master; number = rw master at g; packed = refl })
     go false false q v e = let z : ◌≡◌ {A = ℕ} 0 1 = cc in absurd (omega arith)
 

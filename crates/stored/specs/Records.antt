@@ -2,7 +2,7 @@
 use Rattle.std.specs.Prelude.{Bool, true, false, ◌&&◌, List, [], ◌∷◌, ◌++◌, ℕ, suc, ◌+◌, ◌*◌, ◌/◌, ◌%◌, leb}
 use Rattle.fields.specs.Fields.{size}
 use Rattle.messages.specs.declared.kinds.Kind.{Kind}
-use Rattle.messages.specs.declared.kinds.Kind.TheVariants.{Dump as ofDump}
+use Rattle.messages.specs.declared.kinds.Kind.TheVariants.{Dump as of_dump}
 use Rattle.messages.specs.Kinds.{master, single_patch, master_parameters}
 use Rattle.messages.specs.Layout.{message}
 
@@ -13,8 +13,8 @@ pub data Record : Type 0 where
 
 -- 'Patches are 01H dumps.'
 abbrev pub kind_for : Record → Kind
-kind_for (of_patch n p) = ofDump single_patch
-kind_for (of_master m) = ofDump master_parameters
+kind_for (of_patch n p) = of_dump single_patch
+kind_for (of_master m) = of_dump master_parameters
 
 -- The number that comes with a dump's answer, and its packed bytes.
 abbrev pub number_for : Record → List ℕ

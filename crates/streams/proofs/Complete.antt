@@ -8,8 +8,8 @@ use Prim.Native.Nat.{ℕ, suc, ◌+◌, ◌-◌, ◌<◌}
 use native.Mathlib.Nat.{add-zero}
 use native.Mathlib.Omega.{arith}
 use lib.Dec.{eqb}
-use lib.ListN.{length, take, drop, length-append}
-use lib.Seq.{drop-append_seam, take-add, drop-drop}
+use lib.ListN.{length, drop, length-append}
+use lib.Seq.{drop-append_seam, drop-drop}
 use borrow.Author.Tests.{eqb-true, eqb-false}
 use Rattle.answers.specs.Lists.{All}
 use Rattle.answers.specs.Table.{Verdict, answer_of}

@@ -14,7 +14,7 @@ use borrow.Author.Tests.{eq-eqb, ne_eqb}
 use Rattle.answers.specs.Lists.{All}
 use Rattle.answers.specs.Table.{Verdict, refused, outcome}
 use Rattle.streams.specs.Bytes.{ByteKind, dataByte, exclusive, endOfExclusive, otherStatus, realTime}
-use Rattle.streams.specs.Bytes.{byte_kind, ends, body, without_real_time, real_time_in, framed}
+use Rattle.streams.specs.Bytes.{byte_kind, body, without_real_time, real_time_in, framed}
 use Rattle.streams.specs.Stream.{Report, report, message_at, first_from, walk, reports_from, reports}
 use Rattle.streams.specs.code.Scan.{outside, inside, scan}
 use Rattle.streams.specs.promises.Order.{InOrder, ReportsOf}
@@ -146,8 +146,8 @@ module _ (judge : List ℕ → Verdict) where
               starts = rw (closed_message r (rw q at e));
               ends = rw (closed_message r (rw q at e)) (omega arith);
               rest =
-                  let one-behind : suc f + (length (body t) + 1) ≡ suc stop = omega arith in
-                  rw (one-behind, ← (drop-drop 1 (length (body t)) t), e) (scan_closed r (rw q at e));
+                  let one_behind : suc f + (length (body t) + 1) ≡ suc stop = omega arith in
+                  rw (one_behind, ← (drop-drop 1 (length (body t)) t), e) (scan_closed r (rw q at e));
             }
             by_end (starting q) = interrupted (λ z. omega arith) (scan_again r (rw q at e) ∙ rw (scan_outside judge stop x r, eq-eqb x 0xF0 q))
             by_end (breaking q) =

@@ -1,11 +1,11 @@
 -- Text in ASCII: words, numbers in decimal with and without a sign; and text put into lent room.
 use Rattle.std.specs.Prelude.{◌≡◌, cond, List, [], ◌∷◌, ◌++◌, ℕ, zero, suc, ◌+◌, ◌-◌, ◌/◌, ◌%◌, ◌≤◌, ltb, ℤ, pos, negsuc, length, take, drop}
 use Prim.Native.Char.{code}
-use Prim.Native.String.{String, [] as no-letter, ◌∷◌ as letter}
+use Prim.Native.String.{String, [] as no_letter, ◌∷◌ as letter}
 
 -- The bytes of a word.
 unfoldable pub ascii : String → List ℕ
-ascii no-letter = []
+ascii no_letter = []
 ascii (letter c w) = code c ∷ ascii w
 
 -- The digits of a number in decimal: the last one stands behind those of the tenth part. At most k of them.

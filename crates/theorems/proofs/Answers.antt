@@ -44,13 +44,13 @@ use Rattle.messages.proofs.Numbers.{IsDone, made, record_done, message_refusals,
 use Rattle.reading.specs.code.Told.{report_or, walked, walked_with, reads}
 use Rattle.units.specs.code.Steps.{told}
 use Rattle.units.proofs.Steps.{refused_stays}
-use Rattle.reading.specs.code.Rooms.{width, most, made as madeIn}
+use Rattle.reading.specs.code.Rooms.{width, most, made as made_in}
 use Rattle.writing.specs.declared.BankOutcome.{BankOutcome}
 use Rattle.writing.specs.Writing.{writing_bank, bank_bytes, first_bad, or_later, unless_bad}
 use Rattle.pairs.specs.Pairs.{pair_rows}
 use Rattle.pairs.proofs.Pair.{pair_refusals}
 use Rattle.edit_lists.specs.Lists.{list_bytes}
-use Rattle.edit_lists.specs.Plan.{plan as listFor, planning}
+use Rattle.edit_lists.specs.Plan.{plan as list_for, planning}
 use Rattle.edit_lists.specs.Check.{checking}
 use Rattle.edit_lists.proofs.Answers.{list_row, check_refusals}
 use Rattle.theorems.specs.Answers.{from_start, found, complete, record_in, opcode_in, walk_rows, then_room}
@@ -223,10 +223,10 @@ module _ (s : List ℕ) (place : ℕ) (lent : List ℕ) where
   read_kept (here r e₁ e₂) =
       let v = first (walk_rows l) (record_in l) in
       let e = read_into r.start r.end v r.noise lent in
-      let some-packed : (length (packed_in v) ≡ size) ⊎ (length (packed_in v) ≡ 0) =
+      let some_packed : (length (packed_in v) ≡ size) ⊎ (length (packed_in v) ≡ 0) =
       ⊎_elim (λ (q : packed_in v ≡ packed_in (record_in l)). inl (ap length q)) (λ (q : packed_in v ≡ []). inr (ap length q))
       (packed_from (walk_rows l) (record_in l)) in
-      let kept = keeps_by e.result.outcome.answer (length (packed_in v)) size lent e.lent (reading_keeps r.start r.end v r.noise lent) some-packed in
+      let kept = keeps_by e.result.outcome.answer (length (packed_in v)) size lent e.lent (reading_keeps r.start r.end v r.noise lent) some_packed in
       subst (λ (o : Option Report). Kept (read_report judge (length s) o lent)) (sym e₁)
       (subst (λ (w : Verdict). Kept (read_into r.start r.end w r.noise lent)) (sym e₂) kept)
 
@@ -413,7 +413,7 @@ module _ (ps : List ℕ) where
       go (refused r) q e i =
           let same : record { outcome = r; place = k } ≡ b = cc in
           let rows = field_rows (patch_at k ps) in
-          let is-refused = first_number IsRefusal rows 0 [] [] r (field_refusals (patch_at k ps)) q in
+          let is_refused = first_number IsRefusal rows 0 [] [] r (field_refusals (patch_at k ps)) q in
           subst (PlaceOf ps) same (refused_patch (sym (ap outcome_of q)) (λ z. omega arith) h)
 
   by_bank : (out : List ℕ) (o : Option BankOutcome) → first_bad (length ps / 134) 0 ps ≡ o → PlaceOf ps (unless_bad o (bank_bytes ps) out).result
@@ -475,8 +475,8 @@ held_answered n p = decides (held_rows n p) 0 [] [] _ (omega arith, patch_refusa
         go (something o q) i = rw q
 
 -- What holds of every report from a place on holds of those that one call makes.
-pub made_all : (P : Report → Type 0) (s : List ℕ) (place : ℕ) (room : List ℕ) → All P (reports_from judge (length s) s place) → All P (madeIn s place room)
-unfolding madeIn
+pub made_all : (P : Report → Type 0) (s : List ℕ) (place : ℕ) (room : List ℕ) → All P (reports_from judge (length s) s place) → All P (made_in s place room)
+unfolding made_in
 made_all P s place room a =
     let from = reports_from judge (length s) s place in
     rw (← ((reports_of judge s).by_states place)) (all_take P most (take (length room / width) from) (all_take P (length room / width) from a))
@@ -548,7 +548,7 @@ demand_1 = record {
   test_pair = λ a b. decides (pair_rows a b) 0 [] [] _ (pair_refusals a b) refl;
   check_plan = λ a b list. decides (pair_rows a b ++ list_row a b list) 0 [] [] _ (check_refusals a b list) refl;
   plan = λ a b out.
-      let list = list_bytes (listFor a b) in
+      let list = list_bytes (list_for a b) in
       record { decides = written_decides (pair_rows a b) list out (pair_refusals a b); keeps = written_keeps (pair_rows a b) list out (pair_refusals a b) };
   packs = λ sent out.
       let a : Refusals (nibble_rows sent) = (omega arith, omega arith) in

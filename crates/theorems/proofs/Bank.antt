@@ -28,7 +28,7 @@ use Rattle.streams.proofs.Order.{order_from}
 use Rattle.streams.proofs.Complete.{data_bytes, scan_framed}
 use Rattle.patch.specs.Patch.{field_rows}
 use Rattle.messages.specs.declared.kinds.Kind.{Kind}
-use Rattle.messages.specs.declared.kinds.Kind.TheVariants.{Dump as ofDump}
+use Rattle.messages.specs.declared.kinds.Kind.TheVariants.{Dump as of_dump}
 use Rattle.messages.specs.Kinds.{single_patch, Filed as FiledKind, kind_of}
 use Rattle.messages.specs.Judge.{judge}
 use Rattle.messages.specs.Layout.{dump, message, given_rows}
@@ -59,7 +59,7 @@ none_bad_split n k ps e = go (first (field_rows (take 134 ps)) (done 0 [] [])) r
     go (done o b p) q e = ((done_passed (field_rows (take 134 ps)) (done 0 [] []) o b p q).0, e)
     go (refused r) q e = let z : ◌≡◌ {A = ℕ} 0 1 = cc in absurd (omega arith)
 
-filed_single : FiledKind (ofDump single_patch)
+filed_single : FiledKind (of_dump single_patch)
 unfolding kind_of
 filed_single = refl
 
@@ -73,15 +73,15 @@ scan_bank place (suc n) k ps behind few long e =
     let p = take 134 (drop (k * 134) ps) in
     let good = none_bad_split n k (drop (k * 134) ps) e in
     let l : length p ≡ 134 = length_patch ps k (omega arith) in
-    let passes : Silent (given_rows (ofDump single_patch) (k ∷ []) p) = (rw (eq-eqb (length p) 134 l), (rw (le-ltb 99 k (omega arith)), good.0)) in
-    let s = sound (ofDump single_patch) (k ∷ []) p filed_single refl tt passes in
+    let passes : Silent (given_rows (of_dump single_patch) (k ∷ []) p) = (rw (eq-eqb (length p) 134 l), (rw (le-ltb 99 k (omega arith)), good.0)) in
+    let s = sound (of_dump single_patch) (k ∷ []) p filed_single refl tt passes in
     let further : k * 134 + 134 ≡ (k + 1) * 134 = omega arith in
     let rest = drop-drop 134 (k * 134) ps ∙ ap (λ (i : ℕ). drop i ps) further in
     let next : place + k * 275 + 275 ≡ place + (k + 1) * 275 = omega arith in
     let end : k + suc n ≡ k + 1 + n = omega arith in
     let later = bank_from n (suc k) (drop 134 (drop (k * 134) ps)) in
     let others = scan_bank place n (k + 1) ps behind (omega arith) (omega arith) (rw (rest, ← add-one k) at good.1) in
-    rw (append_assoc (dump 0x01 k p) later behind, sound_scanned (ofDump single_patch) (k ∷ []) p s (place + k * 275) (later ++ behind))
+    rw (append_assoc (dump 0x01 k p) later behind, sound_scanned (of_dump single_patch) (k ∷ []) p s (place + k * 275) (later ++ behind))
     (rw (length_patch_dump 0x01 k p l, next, rest, ← add-one k, others, end) refl)
 
 -- The reports of a bank of n patches start in its bytes.

@@ -2,7 +2,7 @@
 use mathlib.Core.Path.{◌≡◌, refl, sym, ap, ◌∙◌}
 use mathlib.Core.Bool.{Bool, true, false, cond, ◌&&◌}
 use mathlib.Core.List.{List, [], ◌∷◌, ◌++◌, map}
-use Prim.Native.Nat.{ℕ, ◌+◌, ◌-◌, ◌≤◌, ◌<◌}
+use Prim.Native.Nat.{ℕ, ◌+◌, ◌-◌}
 use native.Mathlib.Omega.{arith}
 use lib.Dec.{leb, ltb}
 use lib.ListN.{length}
@@ -11,15 +11,15 @@ use Rattle.answers.specs.Lists.{All}
 use Rattle.answers.specs.Table.{Verdict, done, refused, outcome_of}
 use Rattle.answers.specs.Table as table
 use Rattle.answers.proofs.Lists.{all_weaken}
-use Rattle.streams.specs.Stream.{Report, report, reports, packed_in}
+use Rattle.streams.specs.Stream.{Report, reports, packed_in}
 use Rattle.streams.specs.promises.Noise.{Heard}
 use Rattle.messages.specs.Judge.{judge}
 use Rattle.cable.specs.promises.Cuts.{Entry, entry_of}
 use Rattle.cable.proofs.Cuts.{every_cut}
 use Rattle.cable.proofs.Answers.{answers}
-use Rattle.theorems.specs.Damage.{keep, start_before, start_within, start_from, counted_back, stream, reports_before, reports_of_dump, reports_after}
-use Rattle.theorems.specs.Damage.{Contained, damaged}
-use Rattle.theorems.specs.Cable.{from_cable, Cut, start_of, answer_of, Said, entry_back, ContainedFrom, FromTheCable}
+use Rattle.theorems.specs.Damage.{keep, counted_back, stream, reports_before, reports_of_dump, reports_after}
+use Rattle.theorems.specs.Damage.{Contained}
+use Rattle.theorems.specs.Cable.{from_cable, Cut, answer_of, Said, entry_back, ContainedFrom, FromTheCable}
 use Rattle.theorems.proofs.Damage.{demand_3}
 use Rattle.theorems.proofs.Found.{says_what_was_found}
 use Rattle.theorems.proofs.Noise.{how_noisy_was_the_line}

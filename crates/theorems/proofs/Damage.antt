@@ -29,8 +29,8 @@ use Rattle.patch.specs.Patch.{first_out, first_half}
 use Rattle.patch.proofs.Tests.{fields_pass, fields_silent}
 use Rattle.ranges.proofs.Runs.{run_bytes}
 use Rattle.messages.specs.declared.kinds.Dump.{Dump}
-use Rattle.messages.specs.declared.kinds.Kind.TheVariants.{Dump as ofDump}
-use Rattle.messages.specs.declared.kinds.Packed.TheVariants.{Patch as aPatch}
+use Rattle.messages.specs.declared.kinds.Kind.TheVariants.{Dump as of_dump}
+use Rattle.messages.specs.declared.kinds.Packed.TheVariants.{Patch as a_patch}
 use Rattle.messages.specs.Kinds.{Filed, size_of}
 use Rattle.messages.specs.Judge.{misnumbered, judge}
 use Rattle.messages.specs.Layout.{dump, behind_for, dump_given}
@@ -57,7 +57,7 @@ instead_at a b w z i n ea eb =
     let behind : drop (i + n) (a ++ (b ++ z)) ≡ z = rw (← (append_assoc a b z)) (drop_at (a ++ b) z (i + n) (omega (arith, length-append a b))) in
     rw (take_at a (b ++ z) i ea, behind)
 
-module _ (k : Dump) (filed : Filed (ofDump k)) (patch : k.packed ≡ aPatch) (n : ℕ) (number : misnumbered k.behind n ≡ false)
+module _ (k : Dump) (filed : Filed (of_dump k)) (patch : k.packed ≡ a_patch) (n : ℕ) (number : misnumbered k.behind n ≡ false)
     (p : List ℕ) (l : length p ≡ 134) (out : first_out p ≡ none) (half : first_half p ≡ none) where
   -- The dump's first bytes behind F0H.
   abbrev head : List ℕ
@@ -83,7 +83,7 @@ module _ (k : Dump) (filed : Filed (ofDump k)) (patch : k.packed ≡ aPatch) (n 
 
   head_data : All DataByte head
   head_data =
-      let small = seven_bits (ofDump k) filed in
+      let small = seven_bits (of_dump k) filed in
       let maker = kind_is dataByte 0x10 (omega arith) in
       let device = kind_is dataByte 0x06 (omega arith) in
       (maker, (device, (kind_is dataByte k.opcode small.0, (kind_is dataByte n (small.1 n number), tt))))
@@ -284,19 +284,19 @@ module _ (k : Dump) (filed : Filed (ofDump k)) (patch : k.packed ≡ aPatch) (n 
         let more = one_more before v₂ behind_both in
         let comes = two_replaced k filed patch p l out n u₂ a b v₂ y z c.sends (omega (arith, c.place)) differ in
         let both = refused_judge (framed (head ++ (u₂ ++ y ∷ z ∷ v₂))) (comes_refused k filed patch p l out comes) in
-        let ends-u = short u₂ (λ e. omega (arith, left_two)) in
-        let ends-y = short (u₂ ++ (y ∷ [])) (λ e. omega (arith, left_two, length-append u₂ (y ∷ []))) in
+        let ends_u = short u₂ (λ e. omega (arith, left_two)) in
+        let ends_y = short (u₂ ++ (y ∷ [])) (λ e. omega (arith, left_two, length-append u₂ (y ∷ []))) in
         let neither = short (u₂ ++ v₂) (λ e. omega (arith, left_two, length-append u₂ v₂)) in
         -- The first is data, is dropped, or starts a message.
-        let data-first = more (head ++ (u₂ ++ (y ∷ []))) z
-        (λ r. rw (append_snoc (u₂ ++ (y ∷ [])) z v₂, append_snoc u₂ y (z ∷ v₂)) both) (λ r. only y) ends-y in
-        let dropped-first = more (head ++ u₂) z (λ r. only z) (λ r. neither) ends-u in
-        let started-first : byte_kind y ≡ exclusive → Closed [] (z ∷ r) = λ q. more [] z
+        let data_first = more (head ++ (u₂ ++ (y ∷ []))) z
+        (λ r. rw (append_snoc (u₂ ++ (y ∷ [])) z v₂, append_snoc u₂ y (z ∷ v₂)) both) (λ r. only y) ends_y in
+        let dropped_first = more (head ++ u₂) z (λ r. only z) (λ r. neither) ends_u in
+        let started_first : byte_kind y ≡ exclusive → Closed [] (z ∷ r) = λ q. more [] z
         (λ r. refused_judge (framed (z ∷ v₂)) (λ e. not_ours (lies_in exclusive y q) (done_head (framed (z ∷ v₂)) e).0))
         (λ r. refused_judge (framed v₂) (suffix_refused before v₂ (nibbles p) (sum p) narrow behind_both))
         (refused_judge (framed []) (λ e. omega (arith, (done_head (framed []) e).0))) in
         spoilt_by i (a ∷ b ∷ []) c 2 (y ∷ z ∷ []) (y ∷ z ∷ r) (for_m i (a ∷ b ∷ []) c 2 refl (y ∷ z ∷ []))
-        (byte_inside judge Refused (head ++ u₂) y (z ∷ r) broken (λ q. data-first) (λ q. dropped-first) ends-u started-first
+        (byte_inside judge Refused (head ++ u₂) y (z ∷ r) broken (λ q. data_first) (λ q. dropped_first) ends_u started_first
         (byte_outside judge Refused z r (started before v₂ behind_both) (skipped before v₂ behind_both)))
 
     exchange_data : All DataByte (other i (a ∷ b ∷ []) c (b ∷ a ∷ []))
@@ -327,7 +327,7 @@ module _ (k : Dump) (filed : Filed (ofDump k)) (patch : k.packed ≡ aPatch) (n 
   number_exchanged other =
       let h = head_data in
       not_accepted (0x10 ∷ 0x06 ∷ n ∷ k.opcode ∷ sent) (h.0, (h.1.0, (h.1.1.1.0, (h.1.1.0, sent_data))))
-      (opcode_exchanged k filed n number other sent (omega (arith, sent_length, (filed_sized (ofDump k) filed).0, ap size_of patch)))
+      (opcode_exchanged k filed n number other sent (omega (arith, sent_length, (filed_sized (of_dump k) filed).0, ap size_of patch)))
 
   nibble_exchanged : (s : List ℕ) → s ≡ sent → let m = framed (head ++ s) in (n ≡ get_or m 5 0 → ⊥) → Spoilt (instead 4 2 (get_or m 5 0 ∷ n ∷ []) m)
   nibble_exchanged [] e other = absurd (omega (arith, ap length e, sent_length))
@@ -345,8 +345,8 @@ module _ (k : Dump) (filed : Filed (ofDump k)) (patch : k.packed ≡ aPatch) (n 
       let cut = dump_cut ns (s ∷ []) refl in
       let place : length (front ns) ≡ i = omega (arith, length_nibbles p) in
       let place' : length (front sent) ≡ suc i = omega (arith, sent_length) in
-      let next-byte : get_or whole (suc i) 0 ≡ 0xF7 = rw (dump_cut sent [] (append-nil sent)) (get_or_at (front sent) 0xF7 [] 0 (suc i) place') in
-      rw (byte_there ns s [] i refl place, next-byte)
+      let next_byte : get_or whole (suc i) 0 ≡ 0xF7 = rw (dump_cut sent [] (append-nil sent)) (get_or_at (front sent) 0xF7 [] 0 (suc i) place') in
+      rw (byte_there ns s [] i refl place, next_byte)
       (spoilt_by i (s ∷ []) (record { u = ns; v = []; sends = refl; place = place }) 2 (0xF7 ∷ s ∷ []) (0xF7 ∷ s ∷ [])
       (rw cut (instead_at (front ns) (s ∷ 0xF7 ∷ []) (0xF7 ∷ s ∷ []) [] i 2 place refl))
       (close judge Refused (head ++ ns) (s ∷ []) (short ns (λ z. omega (arith, length_nibbles p)))
@@ -431,7 +431,7 @@ module _ (k : Dump) (filed : Filed (ofDump k)) (patch : k.packed ≡ aPatch) (n 
     }
 
 -- What a writer takes, as the two need it.
-every_patch_dump : (Holds : List ℕ → Verdict → Type 0) → ((k : Dump) → Filed (ofDump k) → k.packed ≡ aPatch → (n : ℕ) → misnumbered k.behind n ≡ false
+every_patch_dump : (Holds : List ℕ → Verdict → Type 0) → ((k : Dump) → Filed (of_dump k) → k.packed ≡ a_patch → (n : ℕ) → misnumbered k.behind n ≡ false
     → (p : List ℕ) → length p ≡ 134 → first_out p ≡ none → first_half p ≡ none → Holds (dump k.opcode n p) (dump_record k n p)) → EveryPatchDump Holds
 every_patch_dump Holds h k filed patch b p given ok =
     let n = behind_for k.behind b in

@@ -10,28 +10,28 @@ use Rattle.nibbles.specs.Nibbles.{nibbles, total, sum}
 use Rattle.fields.specs.Fields.{fields}
 use Rattle.ranges.specs.Ranges.{between, in_row, out_from}
 use Rattle.patch.specs.Patch.{half_used, half_from}
-use Rattle.messages.specs.declared.kinds.Kind.TheVariants.{Dump as ofDump}
+use Rattle.messages.specs.declared.kinds.Kind.TheVariants.{Dump as of_dump}
 use Rattle.messages.specs.Kinds.{single_patch, Filed, kind_of}
 use Rattle.messages.specs.Layout.{dump, message, record_for, given_rows}
 use Rattle.theorems.specs.Examples.{P}
 use Rattle.theorems.specs.Damage.{Damage, lose, replace_two, exchange, damaged, Allowed, Contained, reports_of_dump}
 use Rattle.theorems.proofs.Damage.{demand_3, slipped_neighbours}
 
-taken : tested (given_rows (ofDump single_patch) (0 ∷ []) P) ≡ outcome 0 0
+taken : tested (given_rows (of_dump single_patch) (0 ∷ []) P) ≡ outcome 0 0
 unfolding out_from half_from half_used in_row between fields
 taken = refl
 
-filed : Filed (ofDump single_patch)
+filed : Filed (of_dump single_patch)
 unfolding kind_of
 filed = refl
 
 -- P as number 0, its dump.
 abbrev sent : List ℕ
-sent = message (ofDump single_patch) (0 ∷ []) P
+sent = message (of_dump single_patch) (0 ∷ []) P
 
 -- Demand 3 at three cases, the same dump behind: the first data byte lost, the nibbles of byte 76 replaced, the last nibble and the checksum exchanged.
 abbrev at_case : Damage → Type 0
-at_case x = Contained [] sent (damaged x sent) sent (record_for (ofDump single_patch) (0 ∷ []) P)
+at_case x = Contained [] sent (damaged x sent) sent (record_for (of_dump single_patch) (0 ∷ []) P)
 
 case : (x : Damage) → Allowed x sent → at_case x
 case = demand_3 single_patch filed refl (0 ∷ []) P refl taken [] sent

@@ -29,9 +29,9 @@ use Rattle.splits.specs.Splits.{split_fields}
 use Rattle.edits.specs.Edits.{extended, stored_for, out_at, edit_rows, bus_rows}
 use Rattle.edits.proofs.Tests.{edit_refusals, bus_refusals}
 use Rattle.messages.specs.declared.kinds.Kind.{Kind}
-use Rattle.messages.specs.declared.kinds.Kind.TheVariants.{Dump as ofDump, Short as ofShort, Unknown as unknown}
+use Rattle.messages.specs.declared.kinds.Kind.TheVariants.{Dump as of_dump, Short as of_short, Unknown as unknown}
 use Rattle.messages.specs.declared.kinds.Operands.{Operands}
-use Rattle.messages.specs.declared.kinds.Operands.TheVariants.{Edit as anEdit, BusEdit as aBusEdit, Operation as anOperation}
+use Rattle.messages.specs.declared.kinds.Operands.TheVariants.{Edit as an_edit, BusEdit as a_bus_edit, Operation as an_operation}
 use Rattle.messages.specs.declared.kinds.Packed.{Packed}
 use Rattle.messages.specs.Kinds.{shape_of, size_of, count_of, kind_of}
 use Rattle.messages.specs.Judge.{byte_at, bytes_from, data_of, packed_of, data_rows, packed_rows, operand_rows, kind_rows, record_of, message_rows, judge}
@@ -117,22 +117,22 @@ stored_tells (some k) b =
 
 operands_tell : (o : Operands) (b : List ℕ) → All (RowTells (storing o b)) (operand_rows o b)
 unfolding edit_rows bus_rows
-operands_tell anEdit b =
-    (plain (storing anEdit b) 8 tt _, (stored_tells (place_of (get_or b 0 0)) (stored_for (get_or b 0 0) (get_or b 1 0)), tt))
-operands_tell aBusEdit b =
-    let v = storing aBusEdit b in
+operands_tell an_edit b =
+    (plain (storing an_edit b) 8 tt _, (stored_tells (place_of (get_or b 0 0)) (stored_for (get_or b 0 0) (get_or b 1 0)), tt))
+operands_tell a_bus_edit b =
+    let v = storing a_bus_edit b in
     let at = source_at (get_or b 0 0) in
     let bytes = get_or b 1 0 ∷ extended (get_or b 2 0) ∷ get_or b 3 0 ∷ [] in
     (plain v 8 tt _, (eleven v (out_from fields at bytes) (λ k w e. ((lowest_out fields at bytes).some_out k w e).value), (plain_at v 12 tt _, tt)))
-operands_tell (anOperation o) b = (plain (storing (anOperation o) b) 8 tt _, tt)
+operands_tell (an_operation o) b = (plain (storing (an_operation o) b) 8 tt _, tt)
 
 kind_tells : (k : Kind) (m : List ℕ) → All (RowTells (bringing k (bytes_in (record_of k m)) (packed_in (record_of k m)))) (kind_rows k m)
 unfolding data_rows packed_of
-kind_tells (ofDump k) m =
+kind_tells (of_dump k) m =
     let size = size_of k.packed in
     let value = standing (shape_of k.packed).table (pack (data_of size m)) in
     (plain value 8 tt _, (plain_at value 9 tt _, (plain value 10 tt _, packed_tell k.packed (pack (data_of size m)))))
-kind_tells (ofShort k) m = operands_tell k.operands (bytes_from (count_of k.operands) 4 m)
+kind_tells (of_short k) m = operands_tell k.operands (bytes_from (count_of k.operands) 4 m)
 kind_tells unknown m = tt
 
 message_tells : (m : List ℕ) → All (RowTells (brought_by m)) (message_rows m)
@@ -146,10 +146,10 @@ walk_tells l =
     (plain v 1 tt _, (plain v 2 tt _, (plain v 3 tt _, message_tells (complete l))))
 
 given_tells : (k : Kind) (b p : List ℕ) → All (RowTells (bringing k b p)) (given_rows k b p)
-given_tells (ofDump k) b p =
+given_tells (of_dump k) b p =
     let v = standing (shape_of k.packed).table p in
     (plain v 7 tt _, (plain v 8 tt _, packed_tell k.packed p))
-given_tells (ofShort k) b p = (plain (storing k.operands b) 7 tt _, operands_tell k.operands b)
+given_tells (of_short k) b p = (plain (storing k.operands b) 7 tt _, operands_tell k.operands b)
 given_tells unknown b p = tt
 
 -- 13 behind the rows.
@@ -254,14 +254,14 @@ says_what_was_found =
       show_name = λ p out. decided _ (then_room (patch_rows p) _ out) (room_tells _ (patch_rows p) _ out (patch_tells p)) (d.show_name p out).decides;
       held = λ n p. decided _ _ (plain (in_patch p) 8 tt _, patch_tells p) (d.held n p);
       test_split = λ p. decided _ _ (plain (standing (some split_fields) p) 7 tt _, (by_table split_fields p, tt)) (d.test_split p);
-      test_edit = λ n v. decided _ (edit_rows n v) (operands_tell anEdit (n ∷ v ∷ [])) (d.test_edit n v);
-      test_bus_edit = λ b s a t. decided _ (bus_rows b s a t) (operands_tell aBusEdit (b ∷ s ∷ a ∷ t ∷ [])) (d.test_bus_edit b s a t);
+      test_edit = λ n v. decided _ (edit_rows n v) (operands_tell an_edit (n ∷ v ∷ [])) (d.test_edit n v);
+      test_bus_edit = λ b s a t. decided _ (bus_rows b s a t) (operands_tell a_bus_edit (b ∷ s ∷ a ∷ t ∷ [])) (d.test_bus_edit b s a t);
       test_operands = λ o b. decided _ _ (plain (storing o b) 7 tt _, operands_tell o b) (d.test_operands o b);
       test_packed = λ q p. decided _ _ (plain (standing (shape_of q).table p) 7 tt _, packed_tell q p) (d.test_packed q p);
       test_table = λ n t p. decided _ _ (plain (standing t p) 7 tt _, (by_shape t p, tt)) (d.test_table n t p);
-      edit = λ n v p. edited _ (edit_rows n v) p (edit_refusals n v) (operands_tell anEdit (n ∷ v ∷ [])) (d.edit n v p).decides;
+      edit = λ n v p. edited _ (edit_rows n v) p (edit_refusals n v) (operands_tell an_edit (n ∷ v ∷ [])) (d.edit n v p).decides;
       bus_edit_tells = λ b s a t p.
-          edited _ (bus_rows b s a t) p (bus_refusals b s a t) (operands_tell aBusEdit (b ∷ s ∷ a ∷ t ∷ [])) (d.bus_edit_tells b s a t p).decides;
+          edited _ (bus_rows b s a t) p (bus_refusals b s a t) (operands_tell a_bus_edit (b ∷ s ∷ a ∷ t ∷ [])) (d.bus_edit_tells b s a t p).decides;
       test_pair = λ a b. paired a b [] tt tt (d.test_pair a b);
       check_plan = λ a b list. paired a b (list_row a b list) (omega arith) (plain (in_patch b) 20 tt _, tt) (d.check_plan a b list);
       plan = λ a b out. paired a b _ (omega arith) (plain (in_patch b) 13 tt _, tt) (d.plan a b out).decides;

@@ -12,7 +12,7 @@ use Rattle.streams.specs.Bytes.{framed}
 use Rattle.streams.specs.Stream.{report}
 use Rattle.streams.proofs.Complete.{data_bytes}
 use Rattle.messages.specs.declared.kinds.Dump.{Dump}
-use Rattle.messages.specs.declared.kinds.Kind.TheVariants.{Dump as ofDump}
+use Rattle.messages.specs.declared.kinds.Kind.TheVariants.{Dump as of_dump}
 use Rattle.messages.specs.Kinds.{split_patch, size_of, Filed, kind_of}
 use Rattle.messages.specs.Judge.{judge}
 use Rattle.messages.specs.Layout.{message, behind_for}
@@ -24,13 +24,13 @@ use Rattle.theorems.specs.Slipped.{OneLine}
 use Rattle.theorems.specs.Nibble.{NibbleShown}
 use Rattle.theorems.proofs.Containment.{one_message, parts}
 
-shown : (k : Dump) → Filed (ofDump k) → (b p : List ℕ) → AsWritten k b p → (i y : ℕ) (v : Verdict)
-    → (i < 2 * size_of k.packed → y < 0x80 → judge (set (message (ofDump k) b p) (5 + i) y) ≡ v)
+shown : (k : Dump) → Filed (of_dump k) → (b p : List ℕ) → AsWritten k b p → (i y : ℕ) (v : Verdict)
+    → (i < 2 * size_of k.packed → y < 0x80 → judge (set (message (of_dump k) b p) (5 + i) y) ≡ v)
     → i < 2 * size_of k.packed → y < 0x80 → (before behind : List ℕ)
-    → let m = message (ofDump k) b p in OneLine before m (set m (5 + i) y) behind v
+    → let m = message (of_dump k) b p in OneLine before m (set m (5 + i) y) behind v
 shown k filed b p w i y v told h d before behind =
-    let m = message (ofDump k) b p in
-    let s = sound (ofDump k) b p filed w.given w.bytes w.passes in
+    let m = message (of_dump k) b p in
+    let s = sound (of_dump k) b p filed w.given w.bytes w.passes in
     let c = s.content in
     let l = row_equal 7 (length p) (size_of k.packed) w.passes.0 in
     let size = length_dump k.opcode (behind_for k.behind b) p in

@@ -1,5 +1,5 @@
 -- What the walk finds is heard from its start to its end; where it finds nothing, nothing stands between the two; a record is read there.
-use mathlib.Core.Path.{◌≡◌, refl, sym}
+use mathlib.Core.Path.{◌≡◌, refl}
 use mathlib.Core.List.{List}
 use mathlib.Core.Option.{Option, none, some}
 use Prim.Native.Nat.{ℕ, ◌-◌}
@@ -11,7 +11,7 @@ use Rattle.streams.specs.Stream as stream
 use Rattle.streams.specs.promises.Noise.{Counted, Heard}
 use Rattle.streams.proofs.Heard.{counts, how_noisy}
 use Rattle.messages.specs.Judge.{judge}
-use Rattle.reading.specs.code.Told.{report_or, walked, reads}
+use Rattle.reading.specs.code.Told.{report_or, walked}
 use Rattle.theorems.specs.Noise.{HowNoisy}
 use Rattle.theorems.proofs.Answers.{demand_1, made_all}
 

@@ -23,9 +23,9 @@ use Rattle.edits.specs.promises.Withdrawn.{No8}
 use Rattle.edits.proofs.Tests.{edit_refusals, bus_refusals}
 use Rattle.edits.proofs.Amounts.{same_tests}
 use Rattle.messages.specs.declared.kinds.Operands.{Operands}
-use Rattle.messages.specs.declared.kinds.Operands.TheVariants.{Edit as anEdit, BusEdit as aBusEdit, Operation as anOperation}
+use Rattle.messages.specs.declared.kinds.Operands.TheVariants.{Edit as an_edit, BusEdit as a_bus_edit, Operation as an_operation}
 use Rattle.messages.specs.declared.kinds.Kind.{Kind}
-use Rattle.messages.specs.declared.kinds.Kind.TheVariants.{Dump as ofDump, Short as ofShort, Unknown as unknown}
+use Rattle.messages.specs.declared.kinds.Kind.TheVariants.{Dump as of_dump, Short as of_short, Unknown as unknown}
 use Rattle.messages.specs.Kinds.{maker, device, kind_of, count_of, length_of, is_unknown}
 use Rattle.messages.specs.Judge.{byte_at, operand_rows, lent_operand_rows, bytes_from, kind_rows, record_of, judge}
 use Rattle.messages.specs.Layout.{message, given_rows}
@@ -35,7 +35,7 @@ use Rattle.writing.specs.Writing.{writing}
 use Rattle.pairs.specs.Pairs.{pair_rows}
 use Rattle.pairs.proofs.Pair.{pair_refusals}
 use Rattle.edit_lists.specs.Lists.{list_bytes}
-use Rattle.edit_lists.specs.Plan.{plan as listFor}
+use Rattle.edit_lists.specs.Plan.{plan as list_for}
 use Rattle.edit_lists.proofs.Answers.{check_refusals}
 use Rattle.theorems.specs.Answers.{found, walk_rows}
 use Rattle.theorems.specs.Withdrawn.{Not14, NoInputGives14, former_short, formerly, former_judge, former_writing, former_applying_bus, Withdrawn}
@@ -94,7 +94,7 @@ no_input_gives_14 =
       test_table = λ n t p. not_14 _ _ _ (omega arith) (d.test_table n t p);
       test_pair = λ a b. not_14 _ _ _ (pair_refusals a b) (d.test_pair a b);
       check_plan = λ a b list. not_14 _ _ _ (check_refusals a b list) (d.check_plan a b list);
-      plan = λ a b out. not_14 _ _ _ (room_refusals (pair_rows a b) (length (list_bytes (listFor a b))) out (pair_refusals a b)) (d.plan a b out).decides;
+      plan = λ a b out. not_14 _ _ _ (room_refusals (pair_rows a b) (length (list_bytes (list_for a b))) out (pair_refusals a b)) (d.plan a b out).decides;
       set_name = λ p text. not_14 _ _ _ (omega arith) (d.set_name p text).decides;
       show_name = λ p out. not_14 _ _ _ (room_refusals (patch_rows p) (length (map shown (take 8 p))) out (patch_refusals p)) (d.show_name p out).decides;
       packs = λ sent out. not_14 _ _ _ (omega arith) (d.packs sent out).decides;
@@ -104,9 +104,9 @@ no_input_gives_14 =
 -- The tests of a short message with their former row, whatever rows stand before them, 8 not among these, and behind them.
 short_same : (before : List Row) → No8 before → (o : Operands) (b : List ℕ) (behind : List Row) (v : Verdict)
     → let rows = before ++ (operand_rows o b ++ behind) in first (former_short o b rows) v ≡ first rows v
-short_same before w anEdit b behind v = refl
-short_same before w aBusEdit b behind v = same_tests.same before w (get_or b 0 0) (get_or b 1 0) (get_or b 2 0) (get_or b 3 0) behind v
-short_same before w (anOperation o) b behind v = refl
+short_same before w an_edit b behind v = refl
+short_same before w a_bus_edit b behind v = same_tests.same before w (get_or b 0 0) (get_or b 1 0) (get_or b 2 0) (get_or b 3 0) behind v
+short_same before w (an_operation o) b behind v = refl
 
 -- The rows of a message before those of its kind.
 module _ (m : List ℕ) (k : Kind) where
@@ -120,14 +120,14 @@ module _ (m : List ℕ) (k : Kind) where
   message_same : (o : Operands) (v : Verdict)
       → let rows = head ++ operand_rows o (bytes_from (count_of o) 4 m) in first (former_short o (bytes_from 4 4 m) rows) v ≡ first rows v
   unfolding bus_rows
-  message_same anEdit v = refl
-  message_same aBusEdit v = short_same head (omega arith) aBusEdit (bytes_from 4 4 m) [] v
-  message_same (anOperation o) v = refl
+  message_same an_edit v = refl
+  message_same a_bus_edit v = short_same head (omega arith) a_bus_edit (bytes_from 4 4 m) [] v
+  message_same (an_operation o) v = refl
 
 kind_same : (k : Kind) (m : List ℕ)
     → let rows = head m k ++ kind_rows k m in first (formerly k (bytes_from 4 4 m) rows) (record_of k m) ≡ first rows (record_of k m)
-kind_same (ofDump k) m = refl
-kind_same (ofShort k) m = message_same m (ofShort k) k.operands (record_of (ofShort k) m)
+kind_same (of_dump k) m = refl
+kind_same (of_short k) m = message_same m (of_short k) k.operands (record_of (of_short k) m)
 kind_same unknown m = refl
 
 judge_same : (m : List ℕ) → former_judge m ≡ judge m
@@ -144,16 +144,16 @@ lent_same o b behind v = short_same (row 7 (not (eqb (length b) (count_of o))) �
 
 write_same : (k : Kind) (b p out : List ℕ) → former_writing k b p out ≡ writing k b p out
 unfolding bus_rows
-write_same (ofDump k) b p out = refl
-write_same (ofShort k) b p out = by_its_operands k.operands
+write_same (of_dump k) b p out = refl
+write_same (of_short k) b p out = by_its_operands k.operands
   where
-    by_its_operands : (o : Operands) → written (former_short o b (lent_operand_rows o b)) (message (ofShort k) b p) out
-        ≡ written (lent_operand_rows o b) (message (ofShort k) b p) out
-    by_its_operands anEdit = refl
-    by_its_operands aBusEdit =
-        let m = message (ofShort k) b p in
-        ap (changed (length m) (at_start m out) out) (lent_same aBusEdit b (row 13 (ltb (length out) (length m)) ∷ []) (done 0 [] []))
-    by_its_operands (anOperation o) = refl
+    by_its_operands : (o : Operands) → written (former_short o b (lent_operand_rows o b)) (message (of_short k) b p) out
+        ≡ written (lent_operand_rows o b) (message (of_short k) b p) out
+    by_its_operands an_edit = refl
+    by_its_operands a_bus_edit =
+        let m = message (of_short k) b p in
+        ap (changed (length m) (at_start m out) out) (lent_same a_bus_edit b (row 13 (ltb (length out) (length m)) ∷ []) (done 0 [] []))
+    by_its_operands (an_operation o) = refl
 write_same unknown b p out = refl
 
 bus_same : (b s a d : ℕ) (p : List ℕ) → former_applying_bus b s a d p ≡ applying_bus b s a d p

@@ -33,7 +33,7 @@ use Rattle.units.specs.Units.{stays}
 use Rattle.units.specs.code.Steps.{told, steps}
 use Rattle.pairs.specs.Pairs.{pair_rows}
 use Rattle.edit_lists.specs.Lists.{list_bytes}
-use Rattle.edit_lists.specs.Plan.{plan as listFor, planning}
+use Rattle.edit_lists.specs.Plan.{plan as list_for, planning}
 use Rattle.edit_lists.specs.Check.{accepts, checking}
 
 -- The bytes from the first F0H on.
@@ -180,7 +180,7 @@ pub record Demand1 : Type 0 where
   pub test_pair : (a b : List ℕ) → Decides (pair_rows a b) 0 (tested (pair_rows a b))
   pub check_plan : (a b list : List ℕ) → Decides (pair_rows a b ++ (row 20 (not (accepts a b list)) ∷ [])) 0 (checking a b list)
   pub plan : (a b out : List ℕ)
-      → let n = length (list_bytes (listFor a b)) in
+      → let n = length (list_bytes (list_for a b)) in
       let e = planning a b out in
       Answered (then_room (pair_rows a b) n out) n n out e.result e.lent
   pub packs : (sent out : List ℕ)

@@ -5,8 +5,8 @@ use Rattle.answers.specs.Table.{Verdict, answer_of, outcome}
 use Rattle.answers.specs.Effect.{Effect, tested}
 use Rattle.streams.specs.Stream.{Report, report, Reading, reading, reports, read}
 use Rattle.messages.specs.declared.kinds.Dump.{Dump}
-use Rattle.messages.specs.declared.kinds.Kind.TheVariants.{Dump as ofDump}
-use Rattle.messages.specs.declared.kinds.Packed.TheVariants.{Patch as aPatch}
+use Rattle.messages.specs.declared.kinds.Kind.TheVariants.{Dump as of_dump}
+use Rattle.messages.specs.declared.kinds.Packed.TheVariants.{Patch as a_patch}
 use Rattle.messages.specs.Kinds.{Filed}
 use Rattle.messages.specs.Judge.{judge}
 use Rattle.messages.specs.Layout.{message, record_for, given_rows}
@@ -112,9 +112,9 @@ pub record Contained (before d e behind : List ℕ) (v : Verdict) : Type 0 where
 
 -- What is said of every dump of a patch, numbered or for the edit buffer, as its writer takes and writes it, and of its record.
 abbrev pub EveryPatchDump : (List ℕ → Verdict → Type 0) → Type 0
-EveryPatchDump Holds = (k : Dump) → Filed (ofDump k) → k.packed ≡ aPatch
-    → (b p : List ℕ) → Given (ofDump k) b p → tested (given_rows (ofDump k) b p) ≡ outcome 0 0
-    → Holds (message (ofDump k) b p) (record_for (ofDump k) b p)
+EveryPatchDump Holds = (k : Dump) → Filed (of_dump k) → k.packed ≡ a_patch
+    → (b p : List ℕ) → Given (of_dump k) b p → tested (given_rows (of_dump k) b p) ≡ outcome 0 0
+    → Holds (message (of_dump k) b p) (record_for (of_dump k) b p)
 
 -- Demand 3, whole.
 abbrev pub Demand3 : Type 0

@@ -14,7 +14,7 @@ use Rattle.names.specs.Names.{naming}
 use Rattle.ranges.specs.Values.{plus, minus, value_of}
 use Rattle.edits.specs.Edits.{extended, applying, applying_bus}
 use Rattle.messages.specs.declared.kinds.Kind.{Kind}
-use Rattle.messages.specs.declared.kinds.Kind.TheVariants.{Dump as ofDump, Short as ofShort}
+use Rattle.messages.specs.declared.kinds.Kind.TheVariants.{Dump as of_dump, Short as of_short}
 use Rattle.messages.specs.Kinds.{single_patch, split_patch, remote_edit, bus_edit, request_data, group_mode, unlock_bank, store_edit_buffer}
 use Rattle.messages.specs.Judge.{judge}
 use Rattle.messages.specs.Layout.{message_of, message, record_for}
@@ -48,7 +48,7 @@ effect o lent = record { result = o; lent = lent }
 
 -- A patch written as number 0, and the sum that is written with it.
 abbrev pub as_number_0 : List ℕ → Effect Outcome
-as_number_0 p = writing (ofDump single_patch) (0 ∷ []) p room
+as_number_0 p = writing (of_dump single_patch) (0 ∷ []) p room
 
 abbrev pub sum_with : List ℕ → ℕ
 sum_with p = get_or (as_number_0 p).lent 273 0
@@ -88,35 +88,35 @@ starred =
     gives (value_of (extended 0x40)) (minus 64) ∷
     gives (value_of (extended 0x7F)) (minus 1) ∷
     -- 06H 15H 7FH: byte 26 is 127.
-    gives (as_read (ofShort remote_edit) (edit 0x15 0x7F)) (record_for (ofShort remote_edit) (edit 0x15 0x7F) []) ∷
+    gives (as_read (of_short remote_edit) (edit 0x15 0x7F)) (record_for (of_short remote_edit) (edit 0x15 0x7F) []) ∷
     gives (applying 0x15 0x7F P) (effect (outcome 0 0) (set P 26 127)) ∷
     -- 06H 0CH 60H: byte 19 is E0H. 0CH 5FH: 11 at 19; it would store DFH, -33 (02 (vi)).
-    gives (as_read (ofShort remote_edit) (edit 0x0C 0x60)) (record_for (ofShort remote_edit) (edit 0x0C 0x60) []) ∷
+    gives (as_read (of_short remote_edit) (edit 0x0C 0x60)) (record_for (of_short remote_edit) (edit 0x0C 0x60) []) ∷
     gives (applying 0x0C 0x60 P) (effect (outcome 0 0) (set P 19 0xE0)) ∷
-    gives (as_read (ofShort remote_edit) (edit 0x0C 0x5F)) (refused (outcome_at 11 19 (minus 33))) ∷
-    gives (as_written (ofShort remote_edit) (edit 0x0C 0x5F)) (effect (outcome_at 11 19 (minus 33)) room) ∷
+    gives (as_read (of_short remote_edit) (edit 0x0C 0x5F)) (refused (outcome_at 11 19 (minus 33))) ∷
+    gives (as_written (of_short remote_edit) (edit 0x0C 0x5F)) (effect (outcome_at 11 19 (minus 33)) room) ∷
     gives (applying 0x0C 0x5F P) (effect (outcome_at 11 19 (minus 33)) P) ∷
     -- 06H 00H 40H: 11 at 9; it would store C0H, in a field without a sign 192.
-    gives (as_read (ofShort remote_edit) (edit 0x00 0x40)) (refused (outcome_at 11 9 (plus 192))) ∷
-    gives (as_written (ofShort remote_edit) (edit 0x00 0x40)) (effect (outcome_at 11 9 (plus 192)) room) ∷
+    gives (as_read (of_short remote_edit) (edit 0x00 0x40)) (refused (outcome_at 11 9 (plus 192))) ∷
+    gives (as_written (of_short remote_edit) (edit 0x00 0x40)) (effect (outcome_at 11 9 (plus 192)) room) ∷
     gives (applying 0x00 0x40 P) (effect (outcome_at 11 9 (plus 192)) P) ∷
     -- Parameter 39: 8, whatever the value.
-    gives {A = ℕ → Verdict} (λ (v : ℕ). as_read (ofShort remote_edit) (edit 39 v)) (λ (v : ℕ). refused (outcome 8 0)) ∷
-    gives {A = ℕ → Effect Outcome} (λ (v : ℕ). as_written (ofShort remote_edit) (edit 39 v)) (λ (v : ℕ). effect (outcome 8 0) room) ∷
+    gives {A = ℕ → Verdict} (λ (v : ℕ). as_read (of_short remote_edit) (edit 39 v)) (λ (v : ℕ). refused (outcome 8 0)) ∷
+    gives {A = ℕ → Effect Outcome} (λ (v : ℕ). as_written (of_short remote_edit) (edit 39 v)) (λ (v : ℕ). effect (outcome 8 0) room) ∷
     gives {A = ℕ → Effect Outcome} (λ (v : ℕ). applying 39 v P) (λ (v : ℕ). effect (outcome 8 0) P) ∷
     -- Bus 9, source 20, amount 40H, destination 31: bytes 131-133 are 14H, C0H, 1FH.
-    gives (as_read (ofShort bus_edit) (bus 9 20 0x40 31)) (record_for (ofShort bus_edit) (bus 9 20 0x40 31) []) ∷
+    gives (as_read (of_short bus_edit) (bus 9 20 0x40 31)) (record_for (of_short bus_edit) (bus 9 20 0x40 31) []) ∷
     gives (applying_bus 9 20 0x40 31 P) (effect (outcome 0 0) (zeros_but size ((76, 1) ∷ (131, 0x14) ∷ (132, 0xC0) ∷ (133, 0x1F) ∷ []))) ∷
     -- Bus 0, source 1, destination 0: 12, detail 0.
-    gives (as_read (ofShort bus_edit) (bus 0 1 0 0)) (refused (outcome 12 0)) ∷
-    gives (as_written (ofShort bus_edit) (bus 0 1 0 0)) (effect (outcome 12 0) room) ∷
+    gives (as_read (of_short bus_edit) (bus 0 1 0 0)) (refused (outcome 12 0)) ∷
+    gives (as_written (of_short bus_edit) (bus 0 1 0 0)) (effect (outcome 12 0) room) ∷
     gives (applying_bus 0 1 0 0 P) (effect (outcome 12 0) P) ∷ []
 
 -- Request (vi): values that were found, by a patch that is tested and by its dump that is read; what is told of parameters; values as numbers.
 abbrev pub found_in : ℕ → ℕ → Outcome → List Example
 found_in place byte o =
     gives (tested (patch_rows (set P place byte))) o ∷
-    gives (judge (message (ofDump single_patch) (0 ∷ []) (set P place byte))) (refused o) ∷ []
+    gives (judge (message (of_dump single_patch) (0 ∷ []) (set P place byte))) (refused o) ∷ []
 
 abbrev pub found_values : List Example
 found_values =
@@ -158,17 +158,17 @@ L = zeros_but split_size ((11, 0xE0) ∷ (14, 0xE0) ∷ (16, 0xE0) ∷ [])
 
 -- A dump of a split, and an output that just fits it.
 abbrev pub split_dump : ℕ → List ℕ → List ℕ
-split_dump number p = message (ofDump split_patch) (number ∷ []) p
+split_dump number p = message (of_dump split_patch) (number ∷ []) p
 
 abbrev pub split_room : List ℕ
 split_room = replicate 43 0xFF
 
 abbrev pub as_split : ℕ → List ℕ → Effect Outcome
-as_split number p = writing (ofDump split_patch) (number ∷ []) p split_room
+as_split number p = writing (of_dump split_patch) (number ∷ []) p split_room
 
 -- What writing one answers, lent an output of n bytes.
 abbrev pub written_in : ℕ → ℕ → List ℕ → Outcome
-written_in n number p = (writing (ofDump split_patch) (number ∷ []) p (replicate n 0xFF)).result
+written_in n number p = (writing (of_dump split_patch) (number ∷ []) p (replicate n 0xFF)).result
 
 abbrev pub splits : List Example
 splits =
@@ -176,7 +176,7 @@ splits =
     gives (as_split 49 S)
     (effect (outcome 0 43)
     (zeros_but 43 ((0, 0xF0) ∷ (1, 0x10) ∷ (2, 0x06) ∷ (3, 0x02) ∷ (4, 49) ∷ (37, 0x01) ∷ (38, 0x0E) ∷ (41, 0x61) ∷ (42, 0xF7) ∷ []))) ∷
-    gives (judge (split_dump 49 S)) (record_for (ofDump split_patch) (49 ∷ []) S) ∷
+    gives (judge (split_dump 49 S)) (record_for (of_dump split_patch) (49 ∷ []) S) ∷
     -- Number 50: 8.
     gives (as_split 50 S) (effect (outcome 8 0) split_room) ∷
     gives (judge (split_dump 50 S)) (refused (outcome 8 0)) ∷
@@ -193,8 +193,8 @@ splits =
     (0xF0 ∷ 0x10 ∷ 0x06 ∷ 0x02 ∷ 7 ∷
     15 ∷ 3 ∷ 15 ∷ 3 ∷ 15 ∷ 3 ∷ 15 ∷ 3 ∷ 15 ∷ 3 ∷ 15 ∷ 3 ∷ 15 ∷ 3 ∷ 15 ∷ 3 ∷ 15 ∷ 7 ∷ 15 ∷ 7 ∷
     15 ∷ 7 ∷ 15 ∷ 1 ∷ 1 ∷ 0 ∷ 15 ∷ 7 ∷ 15 ∷ 1 ∷ 1 ∷ 0 ∷ 15 ∷ 1 ∷ 3 ∷ 0 ∷ 0x56 ∷ 0xF7 ∷ [])) ∷
-    gives (judge (split_dump 7 G)) (record_for (ofDump split_patch) (7 ∷ []) G) ∷
-    gives (judge (split_dump 1 L)) (record_for (ofDump split_patch) (1 ∷ []) L) ∷
+    gives (judge (split_dump 7 G)) (record_for (of_dump split_patch) (7 ∷ []) G) ∷
+    gives (judge (split_dump 1 L)) (record_for (of_dump split_patch) (1 ∷ []) L) ∷
     -- 000's dummy split has neither number nor sum: 7. Opcode 05H: 6.
     gives (judge (message_of split_patch.opcode (replicate 36 0))) (refused (outcome 7 0)) ∷
     gives (judge (message_of 0x05 (1 ∷ 0 ∷ []))) (refused (outcome 6 0)) ∷
@@ -268,10 +268,10 @@ operations =
     gives (received (0x0E ∷ 99 ∷ 9 ∷ 6 ∷ [])) not_allowed ∷
     gives (received (0x0E ∷ 99 ∷ 9 ∷ 0x7E ∷ [])) not_allowed ∷
     -- Written; refused, the output keeps its bytes.
-    gives (writing (ofShort group_mode) (3 ∷ 0 ∷ []) [] sevens) (effect (outcome 0 7) (0xF0 ∷ 0x10 ∷ 0x06 ∷ 0x07 ∷ 3 ∷ 0 ∷ 0xF7 ∷ 0x77 ∷ [])) ∷
-    gives (writing (ofShort unlock_bank) [] [] sevens) (effect (outcome 0 5) (0xF0 ∷ 0x10 ∷ 0x06 ∷ 0x0C ∷ 0xF7 ∷ 0x77 ∷ 0x77 ∷ 0x77 ∷ [])) ∷
-    gives (writing (ofShort store_edit_buffer) (7 ∷ 2 ∷ 6 ∷ []) [] sevens) (effect (outcome 8 0) sevens) ∷
-    gives (writing (ofShort request_data) (1 ∷ 0 ∷ []) [] (replicate 6 0x77)) (effect (outcome 13 0) (replicate 6 0x77)) ∷
+    gives (writing (of_short group_mode) (3 ∷ 0 ∷ []) [] sevens) (effect (outcome 0 7) (0xF0 ∷ 0x10 ∷ 0x06 ∷ 0x07 ∷ 3 ∷ 0 ∷ 0xF7 ∷ 0x77 ∷ [])) ∷
+    gives (writing (of_short unlock_bank) [] [] sevens) (effect (outcome 0 5) (0xF0 ∷ 0x10 ∷ 0x06 ∷ 0x0C ∷ 0xF7 ∷ 0x77 ∷ 0x77 ∷ 0x77 ∷ [])) ∷
+    gives (writing (of_short store_edit_buffer) (7 ∷ 2 ∷ 6 ∷ []) [] sevens) (effect (outcome 8 0) sevens) ∷
+    gives (writing (of_short request_data) (1 ∷ 0 ∷ []) [] (replicate 6 0x77)) (effect (outcome 13 0) (replicate 6 0x77)) ∷
     -- A unit: setting its bank does not change its group, nor the group its bank; the group message goes on; a store message for number 4.
     gives (step_by fifth (done 0x0A (8 ∷ []) [])) (stepped (unit_of 8 true true 4) [] false) ∷
     gives (step_by fifth (done 0x0C [] [])) (stepped (unit_of 3 false true 4) [] false) ∷

@@ -13,9 +13,9 @@ use Rattle.splits.specs.Splits.{split_fields, split_rows}
 use Rattle.names.specs.Names.{naming, showing}
 use Rattle.edits.specs.Edits.{extended, stored_for, edit_rows, bus_rows, applying, applying_bus}
 use Rattle.messages.specs.declared.kinds.Kind.{Kind}
-use Rattle.messages.specs.declared.kinds.Kind.TheVariants.{Dump as ofDump, Short as ofShort, Unknown as unknown}
+use Rattle.messages.specs.declared.kinds.Kind.TheVariants.{Dump as of_dump, Short as of_short, Unknown as unknown}
 use Rattle.messages.specs.declared.kinds.Operands.{Operands}
-use Rattle.messages.specs.declared.kinds.Operands.TheVariants.{Edit as anEdit, BusEdit as aBusEdit, Operation as anOperation}
+use Rattle.messages.specs.declared.kinds.Operands.TheVariants.{Edit as an_edit, BusEdit as a_bus_edit, Operation as an_operation}
 use Rattle.messages.specs.declared.kinds.Packed.{Packed}
 use Rattle.messages.specs.Kinds.{shape_of, kind_of}
 use Rattle.messages.specs.Judge.{byte_at, lent_operand_rows, record_of, judge}
@@ -47,15 +47,15 @@ standing (some t) p place = value_in t place (get_or p place 0)
 
 -- What an edit by its bytes would store at its place, or at each place of its bus; an operation stores nothing.
 abbrev pub storing : Operands → List ℕ → ℕ → ℤ
-storing anEdit b place = value_at place (stored_for (get_or b 0 0) (get_or b 1 0))
-storing aBusEdit b place =
+storing an_edit b place = value_at place (stored_for (get_or b 0 0) (get_or b 1 0))
+storing a_bus_edit b place =
     value_at place (get_or (get_or b 1 0 ∷ extended (get_or b 2 0) ∷ get_or b 3 0 ∷ []) (place - source_at (get_or b 0 0)) 0)
-storing (anOperation o) b place = pos 0
+storing (an_operation o) b place = pos 0
 
 -- What a message of a kind brings, with the bytes b that come with the answer and a dump's packed bytes p.
 abbrev pub bringing : Kind → List ℕ → List ℕ → ℕ → ℤ
-bringing (ofDump k) b p = standing (shape_of k.packed).table p
-bringing (ofShort k) b p = storing k.operands b
+bringing (of_dump k) b p = standing (shape_of k.packed).table p
+bringing (of_short k) b p = storing k.operands b
 bringing unknown b p = λ place. pos 0
 
 -- The same of a complete message, its real-time bytes dropped.
@@ -90,9 +90,9 @@ pub record SaysWhatWasFound : Type 0 where
   -- a split that is tested
   pub test_split : (p : List ℕ) → Tells (standing (some split_fields) p) (tested (split_rows p))
   -- the tests of an edit and of packed bytes, by themselves
-  pub test_edit : (parameter v : ℕ) → Tells (storing anEdit (parameter ∷ v ∷ [])) (tested (edit_rows parameter v))
+  pub test_edit : (parameter v : ℕ) → Tells (storing an_edit (parameter ∷ v ∷ [])) (tested (edit_rows parameter v))
   pub test_bus_edit : (bus source amount destination : ℕ)
-      → Tells (storing aBusEdit (bus ∷ source ∷ amount ∷ destination ∷ [])) (tested (bus_rows bus source amount destination))
+      → Tells (storing a_bus_edit (bus ∷ source ∷ amount ∷ destination ∷ [])) (tested (bus_rows bus source amount destination))
   pub test_operands : (o : Operands) (b : List ℕ) → Tells (storing o b) (tested (lent_operand_rows o b))
   pub test_packed : (q : Packed) (p : List ℕ) → Tells (standing (shape_of q).table p) (tested (lent_rows q p))
   pub test_table : (n : ℕ) (t : Option Table) (p : List ℕ) → Tells (standing t p) (tested (counted_rows n t p))
@@ -100,11 +100,11 @@ pub record SaysWhatWasFound : Type 0 where
   pub edit : (parameter v : ℕ) (p : List ℕ)
       → let o = (applying parameter v p).result in
       let own = tested (edit_rows parameter v) in
-      ((own.answer ≡ 0 → ⊥) → Tells (storing anEdit (parameter ∷ v ∷ [])) o) × (own.answer ≡ 0 → Tells (in_patch p) o)
+      ((own.answer ≡ 0 → ⊥) → Tells (storing an_edit (parameter ∷ v ∷ [])) o) × (own.answer ≡ 0 → Tells (in_patch p) o)
   pub bus_edit_tells : (bus source amount destination : ℕ) (p : List ℕ)
       → let o = (applying_bus bus source amount destination p).result in
       let own = tested (bus_rows bus source amount destination) in
-      ((own.answer ≡ 0 → ⊥) → Tells (storing aBusEdit (bus ∷ source ∷ amount ∷ destination ∷ [])) o) × (own.answer ≡ 0 → Tells (in_patch p) o)
+      ((own.answer ≡ 0 → ⊥) → Tells (storing a_bus_edit (bus ∷ source ∷ amount ∷ destination ∷ [])) o) × (own.answer ≡ 0 → Tells (in_patch p) o)
   -- two patches: refused by the tests of the first, what it has; else what the second has
   pub test_pair : (a b : List ℕ) → FirstThenSecond a b (tested (pair_rows a b))
   pub check_plan : (a b list : List ℕ) → FirstThenSecond a b (checking a b list)

@@ -1,6 +1,6 @@
 -- Demand 2: what is written and read back is the same, what is accepted and written again is the same less its real-time bytes, and an edit
 -- changes its own field alone.
-use Rattle.std.specs.Prelude.{◌≡◌, List, [], ◌∷◌, ◌++◌, ℕ, zero, suc, ◌+◌, ◌-◌, ◌*◌, ◌/◌, ◌≤◌, length, take, drop}
+use Rattle.std.specs.Prelude.{◌≡◌, List, [], ◌∷◌, ◌++◌, ℕ, zero, suc, ◌+◌, ◌*◌, ◌/◌, ◌≤◌, length, take, drop}
 use Rattle.std.proofs.Math.Option.{some}
 use Rattle.answers.specs.declared.Outcome.{Outcome}
 use Rattle.answers.specs.Lists.{All}
@@ -13,7 +13,7 @@ use Rattle.names.specs.Names.{naming, showing}
 use Rattle.edits.specs.Edits.{applying, applying_bus}
 use Rattle.edits.specs.promises.Done.{EditDone, BusDone}
 use Rattle.messages.specs.declared.kinds.Kind.{Kind}
-use Rattle.messages.specs.declared.kinds.Kind.TheVariants.{Dump as ofDump}
+use Rattle.messages.specs.declared.kinds.Kind.TheVariants.{Dump as of_dump}
 use Rattle.messages.specs.Kinds.{single_patch, kinds, opcode_of, Filed}
 use Rattle.messages.specs.Judge.{judge}
 use Rattle.messages.specs.Layout.{message, record_for}
@@ -90,7 +90,7 @@ abbrev pub bank_reports : ℕ → ℕ → ℕ → List ℕ → List Report
 bank_reports place zero k ps = []
 bank_reports place (suc n) k ps =
     report (place + k * single_patch.length) (place + (k + 1) * single_patch.length)
-    (record_for (ofDump single_patch) (k ∷ []) (take size (drop (k * size) ps))) 0 ∷ bank_reports place n (k + 1) ps
+    (record_for (of_dump single_patch) (k ∷ []) (take size (drop (k * size) ps))) 0 ∷ bank_reports place n (k + 1) ps
 
 -- The bytes that the writer of a bank put at the start of an output.
 abbrev pub bank_sent : List ℕ → List ℕ → List ℕ

@@ -15,9 +15,9 @@ use Rattle.names.specs.Names.{naming, showing}
 use Rattle.edits.specs.Edits.{edit_rows, bus_rows, with_bus, applying, applying_bus}
 use Rattle.edits.specs.promises.Withdrawn.{with14}
 use Rattle.messages.specs.declared.kinds.Kind.{Kind}
-use Rattle.messages.specs.declared.kinds.Kind.TheVariants.{Dump as ofDump, Short as ofShort, Unknown as unknown}
+use Rattle.messages.specs.declared.kinds.Kind.TheVariants.{Dump as of_dump, Short as of_short, Unknown as unknown}
 use Rattle.messages.specs.declared.kinds.Operands.{Operands}
-use Rattle.messages.specs.declared.kinds.Operands.TheVariants.{Edit as anEdit, BusEdit as aBusEdit, Operation as anOperation}
+use Rattle.messages.specs.declared.kinds.Operands.TheVariants.{Edit as an_edit, BusEdit as a_bus_edit, Operation as an_operation}
 use Rattle.messages.specs.declared.kinds.Packed.{Packed}
 use Rattle.messages.specs.Kinds.{kind_of}
 use Rattle.messages.specs.Judge.{byte_at, bytes_from, lent_operand_rows, message_rows, record_of, judge}
@@ -75,14 +75,14 @@ pub record NoInputGives14 : Type 0 where
 
 -- The former table of a short message with the bytes b: that of a 0BH edit had the row, that of a 06H edit or of an operation had not.
 abbrev pub former_short : Operands → List ℕ → List Row → List Row
-former_short anEdit b rows = rows
-former_short aBusEdit b rows = with14 (get_or b 2 0) rows
-former_short (anOperation o) b rows = rows
+former_short an_edit b rows = rows
+former_short a_bus_edit b rows = with14 (get_or b 2 0) rows
+former_short (an_operation o) b rows = rows
 
 -- The former table of a kind: that of a dump had no such row.
 abbrev pub formerly : Kind → List ℕ → List Row → List Row
-formerly (ofDump k) b rows = rows
-formerly (ofShort k) b rows = former_short k.operands b rows
+formerly (of_dump k) b rows = rows
+formerly (of_short k) b rows = former_short k.operands b rows
 formerly unknown b rows = rows
 
 -- What a message came to, what a writer left, what applying a 0BH edit left.

@@ -2,4 +2,3 @@
 // was found, how noisy the line was, the starred examples, refusal 14 withdrawn.
 // No routine stands here: specs/ has the statements, readable without the proofs, over the definitions that the contracts below cite.
 #![tactic(auto)]
-

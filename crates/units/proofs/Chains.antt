@@ -9,7 +9,7 @@ use lib.Dec.{eqb, ltb}
 use lib.ListN.{length}
 use borrow.Author.Tests.{lt-ltb, le-ltb, ne_eqb, ltb-true, ltb-false}
 use Rattle.answers.specs.Table.{answer_of}
-use Rattle.operations.specs.declared.Operation.TheVariants.{Store as aStore}
+use Rattle.operations.specs.declared.Operation.TheVariants.{Store as a_store}
 use Rattle.operations.proofs.Numbers.{in_numbers}
 use Rattle.messages.specs.Kinds.{kind_of}
 use Rattle.messages.specs.Judge.{judge}
@@ -56,12 +56,12 @@ each_numbered P h k (u ∷ us) = (h k u, each_numbered P h (suc k) us)
 meant_any : (number bank : ℕ) → number ≤ 99 → bank ≤ 9 → (k : ℕ) (u : Unit) → stores number bank 0x7F (in_group k u) ≡ true
 unfolding kind_of
 meant_any number bank n b k u =
-    ap (λ (s : Stepped). s.meant) (fed 0x0E aStore refl (number ∷ bank ∷ 0x7F ∷ []) ((in_numbers.store number bank 0x7F).1 (n, b, inr refl)) (in_group k u))
+    ap (λ (s : Stepped). s.meant) (fed 0x0E a_store refl (number ∷ bank ∷ 0x7F ∷ []) ((in_numbers.store number bank 0x7F).1 (n, b, inr refl)) (in_group k u))
 
 meant_one : (number bank id : ℕ) → number ≤ 99 → bank ≤ 9 → id ≤ 5 → (k : ℕ) (u : Unit) → stores number bank id (in_group k u) ≡ eqb id k
 unfolding kind_of
 meant_one number bank id n b i k u =
-    ap (λ (s : Stepped). s.meant) (fed 0x0E aStore refl (number ∷ bank ∷ id ∷ []) ((in_numbers.store number bank id).1 (n, b, inl i)) (in_group k u))
+    ap (λ (s : Stepped). s.meant) (fed 0x0E a_store refl (number ∷ bank ∷ id ∷ []) ((in_numbers.store number bank id).1 (n, b, inl i)) (in_group k u))
     ∙ rw (ne_eqb id 0x7F (λ e. omega arith))
 
 chain : (us : List Unit) → 2 ≤ length us → length us ≤ 6 → Chain us

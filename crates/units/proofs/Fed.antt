@@ -11,12 +11,12 @@ use Rattle.streams.specs.Bytes.{framed}
 use Rattle.streams.specs.Stream.{walk, first_from}
 use Rattle.streams.proofs.Complete.{data_bytes, walk_framed}
 use Rattle.operations.specs.declared.Operation.{Operation}
-use Rattle.operations.specs.declared.Operation.TheVariants.{Group as aGroup}
+use Rattle.operations.specs.declared.Operation.TheVariants.{Group as a_group}
 use Rattle.operations.specs.Operations.{bytes_of, allowed}
 use Rattle.operations.proofs.Numbers.{in_numbers}
-use Rattle.messages.specs.declared.kinds.Operands.TheVariants.{Operation as anOperation}
+use Rattle.messages.specs.declared.kinds.Operands.TheVariants.{Operation as an_operation}
 use Rattle.messages.specs.declared.kinds.Kind.{Kind}
-use Rattle.messages.specs.declared.kinds.Kind.TheVariants.{Short as ofShort}
+use Rattle.messages.specs.declared.kinds.Kind.TheVariants.{Short as of_short}
 use Rattle.messages.specs.Kinds.{short_kind, kind_of, Filed}
 use Rattle.messages.specs.Judge.{judge}
 use Rattle.messages.specs.Layout.{message_of, given_rows}
@@ -28,9 +28,9 @@ step_framed : (u : Unit) (c : List ℕ) → All (λ b. b < 0x80) c → stepping 
 unfolding stepping
 step_framed u c a = rw (rw append-nil at (walk_framed judge [] c [] (data_bytes c a)))
 
-module _ (opcode : ℕ) (o : Operation) (f : Filed (ofShort (short_kind opcode (anOperation o)))) (b : List ℕ) (e : allowed o b ≡ true) where
+module _ (opcode : ℕ) (o : Operation) (f : Filed (of_short (short_kind opcode (an_operation o)))) (b : List ℕ) (e : allowed o b ≡ true) where
   abbrev kind : Kind
-  kind = ofShort (short_kind opcode (anOperation o))
+  kind = of_short (short_kind opcode (an_operation o))
 
   passes : Silent (given_rows kind b [])
   passes = (rw (eq-eqb (length b) (bytes_of o) (in_numbers.counted o b e)), (rw e, tt))
@@ -41,7 +41,7 @@ module _ (opcode : ℕ) (o : Operation) (f : Filed (ofShort (short_kind opcode (
 -- A group message in its ranges, and a store message.
 pub group_step : (total id : ℕ) → 2 ≤ total → total ≤ 6 → id ≤ 5 → (u : Unit) → stepping u (group_message total id) 0 ≡ joined u total id
 unfolding kind_of
-group_step total id l h i = fed 0x07 aGroup refl (total ∷ id ∷ []) ((in_numbers.group total id).1 (l, h, i))
+group_step total id l h i = fed 0x07 a_group refl (total ∷ id ∷ []) ((in_numbers.group total id).1 (l, h, i))
 
 -- Nothing.
 pub nothing_step : (u : Unit) → stepping u [] 0 ≡ stays u

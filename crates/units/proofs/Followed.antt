@@ -11,7 +11,7 @@ use lib.ListN.{length}
 use borrow.Author.Tests.{lt-ltb, le-ltb, eqb-true, eqb-false, eq-eqb}
 use Rattle.answers.specs.Table.{Verdict, done, refused, outcome_of}
 use Rattle.streams.specs.Stream.{Report, walk, reports_from, reports}
-use Rattle.operations.specs.declared.Operation.TheVariants.{Bank as aBank, Unlock as anUnlock, Store as aStore}
+use Rattle.operations.specs.declared.Operation.TheVariants.{Bank as a_bank, Unlock as an_unlock, Store as a_store}
 use Rattle.operations.proofs.Numbers.{in_numbers}
 use Rattle.messages.specs.declared.kinds.Kind.{Kind}
 use Rattle.messages.specs.Kinds.{opcode_of, kind_of, is_unknown}
@@ -120,12 +120,12 @@ meant u id = (meant_so u.grouped u.number id, so_meant u.grouped u.number id)
 pub followed : Followed
 unfolding stepping kind_of
 followed = record {
-  bank = λ b l g n new h. fed 0x0A aBank refl (new ∷ []) ((in_numbers.bank new).1 h) (unit_of b l g n);
-  unlock = λ b l g n. fed 0x0C anUnlock refl [] in_numbers.unlock (unit_of b l g n);
+  bank = λ b l g n new h. fed 0x0A a_bank refl (new ∷ []) ((in_numbers.bank new).1 h) (unit_of b l g n);
+  unlock = λ b l g n. fed 0x0C an_unlock refl [] in_numbers.unlock (unit_of b l g n);
   group = group;
   store = λ b l n number bank id p q i.
       let e = (in_numbers.store number bank id).1 (p, q, i) in
-      (fed 0x0E aStore refl (number ∷ bank ∷ id ∷ []) e (unit_of b l false n), fed 0x0E aStore refl (number ∷ bank ∷ id ∷ []) e (unit_of b l true n));
+      (fed 0x0E a_store refl (number ∷ bank ∷ id ∷ []) e (unit_of b l false n), fed 0x0E a_store refl (number ∷ bank ∷ id ∷ []) e (unit_of b l true n));
   other = λ u s place. other u s (walk judge s place);
   refused = refused_stays;
   found = λ u s place r e. rw e;

@@ -10,11 +10,11 @@ use Rattle.answers.specs.Lists.{bytes_from}
 use Rattle.answers.specs.Table.{Verdict, done, refused}
 use Rattle.streams.specs.Stream.{Report, walk}
 use Rattle.operations.specs.declared.Operation.{Operation}
-use Rattle.operations.specs.declared.Operation.TheVariants.{Request as aRequest, Group as aGroup, Bank as aBank, Unlock as anUnlock, Store as aStore}
+use Rattle.operations.specs.declared.Operation.TheVariants.{Request as a_request, Group as a_group, Bank as a_bank, Unlock as an_unlock, Store as a_store}
 use Rattle.messages.specs.declared.kinds.Operands.{Operands}
-use Rattle.messages.specs.declared.kinds.Operands.TheVariants.{Edit as anEdit, BusEdit as aBusEdit, Operation as anOperation}
+use Rattle.messages.specs.declared.kinds.Operands.TheVariants.{Edit as an_edit, BusEdit as a_bus_edit, Operation as an_operation}
 use Rattle.messages.specs.declared.kinds.Kind.{Kind}
-use Rattle.messages.specs.declared.kinds.Kind.TheVariants.{Dump as ofDump, Short as ofShort, Unknown as unknown}
+use Rattle.messages.specs.declared.kinds.Kind.TheVariants.{Dump as of_dump, Short as of_short, Unknown as unknown}
 use Rattle.messages.specs.Kinds.{kind_of}
 use Rattle.messages.specs.Judge.{judge}
 use Rattle.units.specs.Units.{Unit, group_message, obeyed, by_operands, by_kind, step_by, step_or, stepping}
@@ -30,20 +30,20 @@ group total id true = (refl, refl)
 group total id false = (refl, refl)
 
 by_operation : (u : Unit) (o : Operation) (b : List ℕ) → Held (obeyed u o b).sent
-by_operation u aRequest b = (refl, refl)
-by_operation u aGroup b = group (get_or b 0 0) (get_or b 1 0) (ltb (get_or b 1 0) 5)
-by_operation u aBank b = (refl, refl)
-by_operation u anUnlock b = (refl, refl)
-by_operation u aStore b = (refl, refl)
+by_operation u a_request b = (refl, refl)
+by_operation u a_group b = group (get_or b 0 0) (get_or b 1 0) (ltb (get_or b 1 0) 5)
+by_operation u a_bank b = (refl, refl)
+by_operation u an_unlock b = (refl, refl)
+by_operation u a_store b = (refl, refl)
 
 by_its_operands : (u : Unit) (o : Operands) (b : List ℕ) → Held (by_operands u o b).sent
-by_its_operands u anEdit b = (refl, refl)
-by_its_operands u aBusEdit b = (refl, refl)
-by_its_operands u (anOperation o) b = by_operation u o b
+by_its_operands u an_edit b = (refl, refl)
+by_its_operands u a_bus_edit b = (refl, refl)
+by_its_operands u (an_operation o) b = by_operation u o b
 
 by_its_kind : (u : Unit) (k : Kind) (b : List ℕ) → Held (by_kind u k b).sent
-by_its_kind u (ofDump k) b = (refl, refl)
-by_its_kind u (ofShort k) b = by_its_operands u k.operands b
+by_its_kind u (of_dump k) b = (refl, refl)
+by_its_kind u (of_short k) b = by_its_operands u k.operands b
 by_its_kind u unknown b = (refl, refl)
 
 by_verdict : (u : Unit) (v : Verdict) → Held (step_by u v).sent

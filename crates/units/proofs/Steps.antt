@@ -10,11 +10,11 @@ use Rattle.answers.specs.Table.{Verdict, done, refused, answer_of, four}
 use Rattle.streams.specs.Stream.{Report, walk}
 use Rattle.streams.proofs.Complete.{complete}
 use Rattle.operations.specs.declared.Operation.{Operation}
-use Rattle.operations.specs.declared.Operation.TheVariants.{Request as aRequest, Group as aGroup, Bank as aBank, Unlock as anUnlock, Store as aStore}
+use Rattle.operations.specs.declared.Operation.TheVariants.{Request as a_request, Group as a_group, Bank as a_bank, Unlock as an_unlock, Store as a_store}
 use Rattle.messages.specs.declared.kinds.Operands.{Operands}
-use Rattle.messages.specs.declared.kinds.Operands.TheVariants.{Edit as anEdit, BusEdit as aBusEdit, Operation as anOperation}
+use Rattle.messages.specs.declared.kinds.Operands.TheVariants.{Edit as an_edit, BusEdit as a_bus_edit, Operation as an_operation}
 use Rattle.messages.specs.declared.kinds.Kind.{Kind}
-use Rattle.messages.specs.declared.kinds.Kind.TheVariants.{Dump as ofDump, Short as ofShort, Unknown as unknown}
+use Rattle.messages.specs.declared.kinds.Kind.TheVariants.{Dump as of_dump, Short as of_short, Unknown as unknown}
 use Rattle.messages.specs.Kinds.{kind_of}
 use Rattle.messages.specs.Judge.{judge}
 use Rattle.messages.proofs.Accepted.{accepted}
@@ -38,20 +38,20 @@ refused_stays u s place h = by_walk (walk judge s place) h
 
 -- Four bytes are enough for what an operation looks at.
 by_operation : (u : Unit) (o : Operation) (b : List ℕ) → obeyed u o (four b) ≡ obeyed u o b
-by_operation u aRequest b = refl
-by_operation u aGroup b = refl
-by_operation u aBank b = refl
-by_operation u anUnlock b = refl
-by_operation u aStore b = refl
+by_operation u a_request b = refl
+by_operation u a_group b = refl
+by_operation u a_bank b = refl
+by_operation u an_unlock b = refl
+by_operation u a_store b = refl
 
 by_its_operands : (u : Unit) (o : Operands) (b : List ℕ) → by_operands u o (four b) ≡ by_operands u o b
-by_its_operands u anEdit b = refl
-by_its_operands u aBusEdit b = refl
-by_its_operands u (anOperation o) b = by_operation u o b
+by_its_operands u an_edit b = refl
+by_its_operands u a_bus_edit b = refl
+by_its_operands u (an_operation o) b = by_operation u o b
 
 four_enough : (u : Unit) (k : Kind) (b : List ℕ) → by_kind u k (four b) ≡ by_kind u k b
-four_enough u (ofDump k) b = refl
-four_enough u (ofShort k) b = by_its_operands u k.operands b
+four_enough u (of_dump k) b = refl
+four_enough u (of_short k) b = by_its_operands u k.operands b
 four_enough u unknown b = refl
 
 -- A message that is accepted: its opcode finds its kind.

@@ -4,12 +4,12 @@ use Rattle.std.proofs.Math.Option.{Option, none, some}
 use Rattle.answers.specs.Table.{Verdict, done, refused}
 use Rattle.streams.specs.Stream.{Report, walk}
 use Rattle.operations.specs.declared.Operation.{Operation}
-use Rattle.operations.specs.declared.Operation.TheVariants.{Request as aRequest, Group as aGroup, Bank as aBank, Unlock as anUnlock, Store as aStore}
+use Rattle.operations.specs.declared.Operation.TheVariants.{Request as a_request, Group as a_group, Bank as a_bank, Unlock as an_unlock, Store as a_store}
 use Rattle.operations.specs.Operations.{last_unit, any_unit}
 use Rattle.messages.specs.declared.kinds.Operands.{Operands}
-use Rattle.messages.specs.declared.kinds.Operands.TheVariants.{Edit as anEdit, BusEdit as aBusEdit, Operation as anOperation}
+use Rattle.messages.specs.declared.kinds.Operands.TheVariants.{Edit as an_edit, BusEdit as a_bus_edit, Operation as an_operation}
 use Rattle.messages.specs.declared.kinds.Kind.{Kind}
-use Rattle.messages.specs.declared.kinds.Kind.TheVariants.{Dump as ofDump, Short as ofShort, Unknown as unknown}
+use Rattle.messages.specs.declared.kinds.Kind.TheVariants.{Dump as of_dump, Short as of_short, Unknown as unknown}
 use Rattle.messages.specs.Kinds.{group_mode, kind_of}
 use Rattle.messages.specs.Judge.{judge}
 use Rattle.messages.specs.Layout.{message}
@@ -28,7 +28,7 @@ abbrev pub in_group : ℕ → Unit → Unit
 in_group id u = record { bank = u.bank; locked = u.locked; grouped = true; number = id }
 
 abbrev pub group_message : ℕ → ℕ → List ℕ
-group_message total id = message (ofShort group_mode) (total ∷ id ∷ []) []
+group_message total id = message (of_short group_mode) (total ∷ id ∷ []) []
 
 -- A group message with that ID is sent on with the ID raised by one, unless it has ID 5, the greatest that is accepted.
 abbrev pub raised : ℕ → ℕ → List ℕ
@@ -53,21 +53,21 @@ joined u total id = record { unit = in_group id u; sent = raised total id; meant
 
 -- An operation with its bytes b: what it is not said to change stays.
 abbrev pub obeyed : Unit → Operation → List ℕ → Stepped
-obeyed u aRequest b = stays u
-obeyed u aGroup b = joined u (get_or b 0 0) (get_or b 1 0)
-obeyed u aBank b = stays (in_bank (get_or b 0 0) u)
-obeyed u anUnlock b = stays (unlocked u)
-obeyed u aStore b = record { unit = u; sent = []; meant = meant_for u (get_or b 2 0) }
+obeyed u a_request b = stays u
+obeyed u a_group b = joined u (get_or b 0 0) (get_or b 1 0)
+obeyed u a_bank b = stays (in_bank (get_or b 0 0) u)
+obeyed u an_unlock b = stays (unlocked u)
+obeyed u a_store b = record { unit = u; sent = []; meant = meant_for u (get_or b 2 0) }
 
 -- A message of a kind with its bytes: dumps and edits change nothing of a unit.
 abbrev pub by_operands : Unit → Operands → List ℕ → Stepped
-by_operands u anEdit b = stays u
-by_operands u aBusEdit b = stays u
-by_operands u (anOperation o) b = obeyed u o b
+by_operands u an_edit b = stays u
+by_operands u a_bus_edit b = stays u
+by_operands u (an_operation o) b = obeyed u o b
 
 abbrev pub by_kind : Unit → Kind → List ℕ → Stepped
-by_kind u (ofDump k) b = stays u
-by_kind u (ofShort k) b = by_operands u k.operands b
+by_kind u (of_dump k) b = stays u
+by_kind u (of_short k) b = by_operands u k.operands b
 by_kind u unknown b = stays u
 
 -- By what a message comes to: one that is refused changes nothing and sends nothing on.

@@ -5,7 +5,7 @@ ghost use Rattle.std.specs.Prelude.{◌≡◌, [], ◌∷◌, ◌++◌, ◌+◌,
 ghost use Rattle.answers.specs.Effect.{Gives, tested, at_start};
 ghost use Rattle.fields.specs.Fields.{size};
 ghost use Rattle.nibbles.specs.Nibbles.{sum};
-ghost use Rattle.messages.specs.declared.kinds.Kind.TheVariants.{Dump as ofDump, Short as ofShort};
+ghost use Rattle.messages.specs.declared.kinds.Kind.TheVariants.{Dump as of_dump, Short as of_short};
 ghost use Rattle.messages.specs.Kinds.{single_patch, split_patch, master_parameters, edit_buffer, remote_edit, bus_edit};
 ghost use Rattle.messages.specs.Kinds.{request_data, group_mode, set_bank, unlock_bank, store_edit_buffer};
 ghost use Rattle.messages.specs.code.Sizes.{sized};
@@ -83,7 +83,7 @@ fn test_dump(kind: Dump, number: u8, p: &[u8]) -> Outcome
 
 // Writes a dump by its description: its tests, then 13. Done with its length.
 fn write_dump(kind: Dump, number: u8, p: &[u8], out: &mut [u8]) -> Outcome
-    requires { T (sized (ofDump kind)) }
+    requires { T (sized (of_dump kind)) }
     ensures { Gives (writing_dump kind number p.now out.old) result out.new }
 {
     let tested = test_dump(kind, number, p);
@@ -100,28 +100,28 @@ fn write_dump(kind: Dump, number: u8, p: &[u8], out: &mut [u8]) -> Outcome
 // Writes a numbered patch: 7 for a patch that is not 134 bytes, 8 for a number above 99, the patch's own 11 and 12, then 13. Done
 // with detail 275.
 pub fn write_patch(number: u8, p: &[u8], out: &mut [u8]) -> Outcome
-    ensures { Gives (writing (ofDump single_patch) (number ∷ []) p.now out.old) result out.new }
+    ensures { Gives (writing (of_dump single_patch) (number ∷ []) p.now out.old) result out.new }
 {
     write_dump(SINGLE_PATCH, number, p, out)
 }
 
 // Writes a numbered split: 7 for a split that is not 18 bytes, 8 for a number above 49, the split's own 11, then 13. Done with detail 43.
 pub fn write_split(number: u8, p: &[u8], out: &mut [u8]) -> Outcome
-    ensures { Gives (writing (ofDump split_patch) (number ∷ []) p.now out.old) result out.new }
+    ensures { Gives (writing (of_dump split_patch) (number ∷ []) p.now out.old) result out.new }
 {
     write_dump(SPLIT_PATCH, number, p, out)
 }
 
 // Writes a patch to the edit buffer, which has no number: the patch's own 7, 11 and 12, then 13. Done with detail 275.
 pub fn write_edit_buffer(p: &[u8], out: &mut [u8]) -> Outcome
-    ensures { Gives (writing (ofDump edit_buffer) [] p.now out.old) result out.new }
+    ensures { Gives (writing (of_dump edit_buffer) [] p.now out.old) result out.new }
 {
     write_dump(EDIT_BUFFER, 0, p, out)
 }
 
 // Writes master parameters, version 3: 7 for a master that is not 172 bytes, then 13. Done with detail 351.
 pub fn write_master(m: &[u8], out: &mut [u8]) -> Outcome
-    ensures { Gives (writing (ofDump master_parameters) [] m.now out.old) result out.new }
+    ensures { Gives (writing (of_dump master_parameters) [] m.now out.old) result out.new }
 {
     write_dump(MASTER_PARAMETERS, MasterParameters::VERSION, m, out)
 }
@@ -140,8 +140,8 @@ fn put_bytes(bytes: &[u8], out: &mut [u8])
 
 // Writes a short message by its description: the tests of its bytes, then 13. Done with its length.
 fn write_short(kind: Short, bytes: &[u8], out: &mut [u8]) -> Outcome
-    requires { T (sized (ofShort kind)) }
-    ensures { Gives (writing (ofShort kind) bytes.now [] out.old) result out.new }
+    requires { T (sized (of_short kind)) }
+    ensures { Gives (writing (of_short kind) bytes.now [] out.old) result out.new }
 {
     let operands = kind.operands;
     let tested = test_operands(operands, bytes);
@@ -160,49 +160,49 @@ fn write_short(kind: Short, bytes: &[u8], out: &mut [u8]) -> Outcome
 
 // Writes a remote edit: its own 8 and 11, then 13. Done with detail 7.
 pub fn write_edit(parameter: Parameter, value: u8, out: &mut [u8]) -> Outcome
-    ensures { Gives (writing (ofShort remote_edit) (parameter.0 ∷ value ∷ []) [] out.old) result out.new }
+    ensures { Gives (writing (of_short remote_edit) (parameter.0 ∷ value ∷ []) [] out.old) result out.new }
 {
     write_short(REMOTE_EDIT, &[parameter.0, value], out)
 }
 
 // Writes a matrix modulation edit: its own 8, 11 and 12, then 13. Done with detail 9.
 pub fn write_bus_edit(bus: u8, source: u8, amount: u8, destination: u8, out: &mut [u8]) -> Outcome
-    ensures { Gives (writing (ofShort bus_edit) (bus ∷ source ∷ amount ∷ destination ∷ []) [] out.old) result out.new }
+    ensures { Gives (writing (of_short bus_edit) (bus ∷ source ∷ amount ∷ destination ∷ []) [] out.old) result out.new }
 {
     write_short(BUS_EDIT, &[bus, source, amount, destination], out)
 }
 
 // Writes a request for data: 8 for a type that is none, or a number that it has not, then 13. Done with detail 7.
 pub fn write_request_data(kind: u8, number: u8, out: &mut [u8]) -> Outcome
-    ensures { Gives (writing (ofShort request_data) (kind ∷ number ∷ []) [] out.old) result out.new }
+    ensures { Gives (writing (of_short request_data) (kind ∷ number ∷ []) [] out.old) result out.new }
 {
     write_short(REQUEST_DATA, &[kind, number], out)
 }
 
 // Writes group mode: 8 for a total that is not 2 to 6, or an ID above 5, then 13. Done with detail 7.
 pub fn write_group_mode(total: u8, id: u8, out: &mut [u8]) -> Outcome
-    ensures { Gives (writing (ofShort group_mode) (total ∷ id ∷ []) [] out.old) result out.new }
+    ensures { Gives (writing (of_short group_mode) (total ∷ id ∷ []) [] out.old) result out.new }
 {
     write_short(GROUP_MODE, &[total, id], out)
 }
 
 // Writes set bank: 8 for a bank above 9, then 13. Done with detail 6.
 pub fn write_set_bank(bank: u8, out: &mut [u8]) -> Outcome
-    ensures { Gives (writing (ofShort set_bank) (bank ∷ []) [] out.old) result out.new }
+    ensures { Gives (writing (of_short set_bank) (bank ∷ []) [] out.old) result out.new }
 {
     write_short(SET_BANK, &[bank], out)
 }
 
 // Writes unlock bank: 13. Done with detail 5.
 pub fn write_unlock_bank(out: &mut [u8]) -> Outcome
-    ensures { Gives (writing (ofShort unlock_bank) [] [] out.old) result out.new }
+    ensures { Gives (writing (of_short unlock_bank) [] [] out.old) result out.new }
 {
     write_short(UNLOCK_BANK, &[], out)
 }
 
 // Writes store edit buffer: 8 for a number above 99, a bank above 9, or an ID that is neither 0 to 5 nor 7FH, then 13. Done with detail 8.
 pub fn write_store_edit_buffer(number: u8, bank: u8, id: u8, out: &mut [u8]) -> Outcome
-    ensures { Gives (writing (ofShort store_edit_buffer) (number ∷ bank ∷ id ∷ []) [] out.old) result out.new }
+    ensures { Gives (writing (of_short store_edit_buffer) (number ∷ bank ∷ id ∷ []) [] out.old) result out.new }
 {
     write_short(STORE_EDIT_BUFFER, &[number, bank, id], out)
 }

@@ -1,5 +1,4 @@
 -- `cut` is the report of the message that is open.
-use borrow.Author.Rules.{rules}
 use Rattle.cable.proofs.cut.Goals as goal
 
 pub returns : goal.returns

@@ -1,6 +1,4 @@
 -- `end` answers by whether the end was declared before, and by whether a message is open.
-use mathlib.Core.Path.{sym, ◌∙◌}
-use borrow.Author.Rules.{rules}
 use Rattle.cable.proofs.Calls.{held_inside, held_outside, ending_over, ending_first}
 use Rattle.cable.proofs.end.Goals as goal
 

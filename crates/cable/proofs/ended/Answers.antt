@@ -1,5 +1,4 @@
 -- `ended` is the turn as it stands, with the count of packed bytes that the outcome tells.
-use borrow.Author.Rules.{rules}
 use Rattle.cable.proofs.ended.Goals as goal
 
 pub returns : goal.returns

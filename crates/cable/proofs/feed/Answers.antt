@@ -1,6 +1,4 @@
 -- `feed` puts the room and what stands beside it together again.
-use mathlib.Core.Path.{◌≡◌, sym, ap, ◌∙◌}
-use borrow.Author.Rules.{rules}
 use Rattle.cable.proofs.Steps.{together}
 use Rattle.cable.proofs.feed.Goals as goal
 

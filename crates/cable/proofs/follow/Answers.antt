@@ -1,12 +1,10 @@
 -- `follow` gives, by how the message ends, what a call gives from inside it.
 -- Behind the end that was found: the record, the bytes fed, and that the places fit.
-use mathlib.Core.Path.{◌≡◌, sym}
-use mathlib.Core.List.{List}
-use Prim.Native.Nat.{ℕ, ◌+◌, ◌≤◌}
+use mathlib.Core.Path.{sym}
+use Prim.Native.Nat.{◌+◌, ◌≤◌}
 use native.Mathlib.Omega.{arith}
 use lib.ListN.{length}
 use lib.Seq.{length-take-le}
-use borrow.Author.Rules.{rules}
 use Rattle.messages.specs.Judge.{judge}
 use Rattle.frames.proofs.Feeding.{span_within, span_taken, span_heard, span_quiet}
 use Rattle.cable.specs.declared.Cable.{Cable}
@@ -58,11 +56,11 @@ overflow_add-place c = omega (arith, within (goal.at.overflow_add-place c).After
 
 pub slice_bounds-append-end : goal.slice_bounds-append-end
 slice_bounds-append-end c =
-     span_taken judge c.args.input.now c.find_end-span.result c.find_end-span.ensures
+    span_taken judge c.args.input.now c.find_end-span.result c.find_end-span.ensures
 
 pub append-count-requires : goal.append-count-requires
 append-count-requires c =
-     span_heard judge c.args.input.now c.find_end-span.result c.find_end-span.ensures
+    span_heard judge c.args.input.now c.find_end-span.result c.find_end-span.ensures
 
 pub overflow_add-place-then-span-eq-CUT : goal.overflow_add-place-then-span-eq-CUT
 overflow_add-place-then-span-eq-CUT c = omega (arith, within (goal.at.overflow_add-place-then-span-eq-CUT c).After-find_end-span)

@@ -1,5 +1,4 @@
 -- `goes_on` is the turn as it stands.
-use borrow.Author.Rules.{rules}
 use Rattle.cable.proofs.goes_on.Goals as goal
 
 pub returns : goal.returns

@@ -1,5 +1,4 @@
 -- `interrupted` is what a message comes to that is refused by 3.
-use borrow.Author.Rules.{rules}
 use Rattle.cable.proofs.interrupted.Goals as goal
 
 pub returns : goal.returns

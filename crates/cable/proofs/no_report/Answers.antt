@@ -1,5 +1,4 @@
 -- `no_report` tells an answer at a place.
-use borrow.Author.Rules.{rules}
 use Rattle.cable.proofs.no_report.Goals as goal
 
 pub returns : goal.returns

@@ -1,11 +1,10 @@
 -- `seek` passes over what stands before the first F0H, and then gives, by how the message there ends, what a call gives.
 -- Behind the record of the message at the first F0H: the place and the bytes fed, and what stands behind that F0H.
-use mathlib.Core.Path.{◌≡◌, refl, sym, ap, ◌∙◌}
+use mathlib.Core.Path.{◌≡◌, ◌∙◌}
 use mathlib.Core.List.{List}
 use Prim.Native.Nat.{ℕ, ◌+◌, ◌-◌, ◌≤◌}
 use native.Mathlib.Omega.{arith}
 use lib.ListN.{length, take, drop}
-use borrow.Author.Rules.{rules}
 use Rattle.answers.specs.Effect.{Gives}
 use Rattle.judging.specs.code.Heard.{recorded_from}
 use Rattle.messages.specs.Judge.{judge}

@@ -1,8 +1,5 @@
 -- `size_told` by the answer: none but 0 has packed bytes.
-use mathlib.Core.Path.{ap, ◌∙◌}
 use borrow.Author.Tests.{eq-eqb, ne_eqb}
-use borrow.Author.Rules.{rules}
-use Rattle.messages.specs.code.Sizes.{packed_size}
 use Rattle.cable.proofs.size_told.Goals as goal
 
 pub returns-then-outcome-ne-DONE : goal.returns-then-outcome-ne-DONE

@@ -1,6 +1,5 @@
 -- `take` refuses behind the end and where the bytes would be too many, and else goes on inside the message that is open, or outside.
-use mathlib.Core.Path.{◌≡◌, refl, sym, ◌∙◌}
-use borrow.Author.Rules.{rules}
+use mathlib.Core.Path.{refl, sym, ◌∙◌}
 use borrow.Author.Tests.{ltb-false}
 use Rattle.cable.specs.code.Steps.{record_in}
 use Rattle.cable.proofs.Calls.{feeding_over, feeding_many, feeding_goes, goes_outside}

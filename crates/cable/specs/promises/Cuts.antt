@@ -3,7 +3,7 @@
 use Rattle.std.specs.Prelude.{◌≡◌, true, false, cond, List, [], ◌∷◌, ◌++◌, map, ℕ, zero, suc, ◌+◌, ◌*◌, ◌≤◌, ◌<◌, length, take, drop}
 use Rattle.std.proofs.Math.Option.{some}
 use Rattle.answers.specs.Lists.{All}
-use Rattle.answers.specs.Effect.{Effect, at_start}
+use Rattle.answers.specs.Effect.{at_start}
 use Rattle.streams.specs.Stream as stream
 use Rattle.streams.specs.Stream.{packed_in}
 use Rattle.messages.specs.Kinds.{master}

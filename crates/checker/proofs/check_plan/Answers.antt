@@ -3,7 +3,6 @@ use mathlib.Core.Path.{◌≡◌, sym, ◌∙◌, subst}
 use mathlib.Core.List.{List, [], ◌∷◌}
 use mathlib.Core.Bool.{Bool, true, false, not}
 use Prim.Native.Nat.{ℕ}
-use borrow.Author.Rules.{rules}
 use borrow.Author.Tests.{not-true, not-false}
 use Rattle.answers.specs.declared.Outcome.{Outcome}
 use Rattle.answers.specs.Table.{row}
@@ -66,9 +65,9 @@ returns-then-not-turn c =
     c.refused.ensures
 
 last : (u : Else-not-turn) →
-     (h1 : (r : Bool) → u.turn.result ≡ r → Turns (last_patch u.args.list.now u.args.a.now) r u.turn.new.p) → accepts u.args.a.now u.args.b.now u.args.list.now ≡ same_bytes u.turn.new.p u.args.b.now
+    (h1 : (r : Bool) → u.turn.result ≡ r → Turns (last_patch u.args.list.now u.args.a.now) r u.turn.new.p) → accepts u.args.a.now u.args.b.now u.args.list.now ≡ same_bytes u.turn.new.p u.args.b.now
 last u h1 =
-     turned_to u.args.a.now u.args.b.now u.args.list.now u.turn.new.p (h1 true (not-false _ u.if-not-turn.false-raw))
+    turned_to u.args.a.now u.args.b.now u.args.list.now u.turn.new.p (h1 true (not-false _ u.if-not-turn.false-raw))
 
 pub returns-then-not-same : goal.returns-then-not-same
 returns-then-not-same c =

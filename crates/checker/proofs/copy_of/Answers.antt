@@ -1,11 +1,11 @@
 use mathlib.Core.Path.{◌≡◌, refl, ◌∙◌}
 use mathlib.Core.List.{List, [], ◌∷◌, ◌++◌, append-nil}
-use Prim.Native.Nat.{ℕ, ◌+◌, ◌-◌, ◌≤◌}
+use Prim.Native.Nat.{ℕ, ◌+◌, ◌≤◌}
 use native.Mathlib.Omega.{arith}
 use native.Mathlib.Numerals.{add-one}
 use lib.ListN.{length, get_or, take, replicate, drop_of_length-le}
 use lib.Seq.{take-suc, take_all, length-take-le}
-use Rattle.answers.proofs.Copied.{Copied, copied_next}
+use Rattle.answers.proofs.Copied.{copied_next}
 use Rattle.checker.proofs.copy_of.Goals as goal
 
 abbrev zeros : List ℕ

@@ -1,12 +1,7 @@
 -- Byte after byte is copied: those passed are the patch's.
-use mathlib.Core.Path.{◌≡◌, refl, ◌∙◌}
-use mathlib.Core.List.{List, [], ◌∷◌, ◌++◌, append-nil}
-use Prim.Native.Nat.{ℕ, ◌+◌, ◌-◌, ◌≤◌}
-use native.Mathlib.Omega.{arith}
-use native.Mathlib.Numerals.{add-one}
-use lib.ListN.{length, get_or, take, replicate, drop_of_length-le}
-use lib.Seq.{take-suc, take_all, length-take-le}
-use Rattle.answers.proofs.Copied.{Copied, copied_next}
+use Prim.Native.Nat.{◌-◌}
+use lib.ListN.{take}
+use Rattle.answers.proofs.Copied.{Copied}
 use Rattle.checker.proofs.copy_of.Given as goal
 
 abbrev pub invariant-loop-i : goal.invariant-loop-i

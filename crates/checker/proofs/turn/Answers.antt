@@ -2,16 +2,14 @@ use mathlib.Core.Path.{◌≡◌, refl, ◌∙◌, subst}
 use mathlib.Core.Bool.{Bool, true, false}
 use mathlib.Core.List.{List}
 use mathlib.Core.Option.{Option, some, none}
-use Prim.Native.Nat.{ℕ, ◌+◌, ◌-◌, ◌≤◌, ◌<◌}
+use Prim.Native.Nat.{ℕ, ◌+◌, ◌≤◌, ◌<◌}
 use native.Mathlib.Omega.{arith}
 use lib.Dec.{eqb}
 use lib.ListN.{length, drop, length-drop}
 use lib.Seq.{drop-drop}
-use borrow.Author.Rules.{rules}
 use borrow.Author.Tests.{eqb-true, eqb-false}
 use Rattle.answers.proofs.Lists.{to_end}
 use Rattle.edit_lists.specs.Check.{first_edit}
-use Rattle.edit_lists.specs.promises.Shortest.{Good}
 use Rattle.checker.specs.code.Steps.{Follows, last_patch, Turns}
 use Rattle.checker.proofs.Steps.{last_none, last_stop, last_short, last_next, next_good}
 use Rattle.checker.proofs.turn.Goals.{After-follow-taken}
@@ -19,7 +17,7 @@ use Rattle.checker.proofs.turn.Goals as goal
 
 abbrev left : After-follow-taken → List ℕ
 left t =
-     drop t.loop-at.at t.args.list.now
+    drop t.loop-at.at t.args.list.now
 
 some_left : (t : After-follow-taken) → 0 < length (left t)
 some_left t = simp length-drop (omega (arith, t.loop-at-test.true))
@@ -36,15 +34,15 @@ next t z = last_next (left t) t.loop-at.p t.follow-taken.new.p t.follow-taken.re
 
 further : (t : After-follow-taken) → (t.follow-taken.result ≡ 0 → ⊥)
     →
-     t.loop-at.at + t.follow-taken.result ≤ length t.args.list.now
+    t.loop-at.at + t.follow-taken.result ≤ length t.args.list.now
 further t z =
     omega (arith, (next t z).0, length-drop t.loop-at.at t.args.list.now, t.loop-at.invariant.0)
 
-turns-none : (o : Option (List ℕ)) (after : List ℕ) → o ≡ none → Turns o false after
-turns-none o after e = rw e refl
+turns_none : (o : Option (List ℕ)) (after : List ℕ) → o ≡ none → Turns o false after
+turns_none o after e = rw e refl
 
-turns-some : (o : Option (List ℕ)) (after : List ℕ) → o ≡ some after → Turns o true after
-turns-some o after e = rw e (refl, refl)
+turns_some : (o : Option (List ℕ)) (after : List ℕ) → o ≡ some after → Turns o true after
+turns_some o after e = rw e (refl, refl)
 
 pub shape_of-p-then-taken-eq0 : goal.shape_of-p-then-taken-eq0
 shape_of-p-then-taken-eq0 c =
@@ -53,8 +51,8 @@ shape_of-p-then-taken-eq0 c =
 pub returns-then-taken-eq0 : goal.returns-then-taken-eq0
 returns-then-taken-eq0 c =
     let s = (goal.at.returns-then-taken-eq0 c).After-follow-taken in
-    let none-taken = subst (λ (n : ℕ). Follows (first_edit (left s)) c.loop-at.p n c.follow-taken.new.p) c.if-taken-eq0.true (gave s) in
-    turns-none _ c.follow-taken.new.p (c.loop-at.invariant.2 ∙ last_stop (left s) c.loop-at.p c.follow-taken.new.p (some_left s) none-taken)
+    let none_taken = subst (λ (n : ℕ). Follows (first_edit (left s)) c.loop-at.p n c.follow-taken.new.p) c.if-taken-eq0.true (gave s) in
+    turns_none _ c.follow-taken.new.p (c.loop-at.invariant.2 ∙ last_stop (left s) c.loop-at.p c.follow-taken.new.p (some_left s) none_taken)
 
 pub loop-at-smaller : goal.loop-at-smaller
 loop-at-smaller c =
@@ -78,8 +76,8 @@ turns_at : (o : Option (List ℕ)) (at n : ℕ) (after : List ℕ) → (at ≡ n
 turns_at o at n after all few = go (eqb at n) refl
   where
     go : (t : Bool) → eqb at n ≡ t → Turns o t after
-    go true q = turns-some o after (all (eqb-true at n q))
-    go false q = turns-none o after (few (eqb-false at n q))
+    go true q = turns_some o after (all (eqb-true at n q))
+    go false q = turns_none o after (few (eqb-false at n q))
 
 pub returns : goal.returns
 returns c =

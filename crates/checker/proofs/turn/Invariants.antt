@@ -1,21 +1,10 @@
 -- Message after message is followed. The invariant: the last patch of the list is that of the bytes from the place at hand on, from the patch at hand.
 -- The bytes from the place at hand on: some are left, and this is what following gave of them.
-use mathlib.Core.Path.{◌≡◌, refl, ◌∙◌, subst}
-use mathlib.Core.Bool.{Bool, true, false}
-use mathlib.Core.List.{List}
-use mathlib.Core.Option.{Option, some, none}
-use Prim.Native.Nat.{ℕ, ◌+◌, ◌-◌, ◌≤◌, ◌<◌}
-use native.Mathlib.Omega.{arith}
-use lib.Dec.{eqb}
-use lib.ListN.{length, drop, length-drop}
-use lib.Seq.{drop-drop}
-use borrow.Author.Rules.{rules}
-use borrow.Author.Tests.{eqb-true, eqb-false}
-use Rattle.answers.proofs.Lists.{to_end}
-use Rattle.edit_lists.specs.Check.{first_edit}
+use mathlib.Core.Path.{◌≡◌}
+use Prim.Native.Nat.{◌-◌, ◌≤◌}
+use lib.ListN.{length, drop}
 use Rattle.edit_lists.specs.promises.Shortest.{Good}
-use Rattle.checker.specs.code.Steps.{Follows, last_patch, Turns}
-use Rattle.checker.proofs.Steps.{last_none, last_stop, last_short, last_next, next_good}
+use Rattle.checker.specs.code.Steps.{last_patch}
 use Rattle.checker.proofs.turn.Given as goal
 
 abbrev pub invariant-loop-at : goal.invariant-loop-at

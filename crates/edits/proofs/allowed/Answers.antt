@@ -1,6 +1,5 @@
 -- Seven bits, then the range of what is stored.
 use mathlib.Core.Path.{ap, ◌∙◌}
-use borrow.Author.Rules.{rules}
 use borrow.Author.Tests.{le-leb, lt-leb}
 use Rattle.fields.specs.Fields.{in_range}
 use Rattle.edits.proofs.allowed.Goals as goal

@@ -5,7 +5,6 @@ use mathlib.Core.Option.{some}
 use Prim.Native.Nat.{ℕ, ◌<◌}
 use native.Mathlib.Omega.{arith}
 use lib.ListN.{set}
-use borrow.Author.Rules.{rules}
 use Rattle.answers.specs.Table.{Row, done}
 use Rattle.answers.proofs.Lists.{all_append}
 use Rattle.answers.proofs.Effects.{passed, gives_kept, gives_kept_behind, gives_changed}

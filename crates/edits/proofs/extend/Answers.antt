@@ -1,5 +1,4 @@
 -- Each arm is that of `extended`.
-use borrow.Author.Rules.{rules}
 use borrow.Author.Tests.{lt-ltb, le-ltb}
 use Rattle.edits.specs.Edits.{extended}
 use Rattle.edits.proofs.extend.Goals as goal

@@ -1,5 +1,4 @@
 -- Each arm is that of `stored_for`.
-use borrow.Author.Rules.{rules}
 use borrow.Author.Tests.{eq-eqb, ne_eqb}
 use Rattle.edits.specs.Edits.{stored_for}
 use Rattle.edits.proofs.stored_for.Goals as goal

@@ -1,5 +1,4 @@
 -- The tests in the order of the rows: bus and amount, then the three bytes.
-use borrow.Author.Rules.{rules}
 use borrow.Author.Tests.{lt-ltb, le-ltb}
 use Rattle.edits.specs.Edits.{bus_rows}
 use Rattle.edits.proofs.test_bus_edit.Goals as goal

@@ -27,10 +27,10 @@ bytes f = let a = f.args in a.source ∷ a.amount ∷ a.destination ∷ []
 
 -- What the rows of bus 0 find, they find on every bus.
 
-byte-rows : (f : After-first_out-out) (o : Option Found) → out_from bus_table 0 (bytes f) ≡ o → let a = f.args in
+rows_of_bytes : (f : After-first_out-out) (o : Option Found) → out_from bus_table 0 (bytes f) ≡ o → let a = f.args in
     byte_rows a.bus a.source a.amount a.destination
     ≡ row_found 11 (further (104 + 3 * a.bus) o) ∷ row_at 12 (cond (half_used a.source a.destination) (some a.bus) none) ∷ []
-byte-rows f o e =
+rows_of_bytes f o e =
     let a = f.args in
     rw (bus_out a.bus a.source a.amount a.destination f.requires, e)
 
@@ -39,12 +39,12 @@ byte-rows f o e =
 out : (t : Then-out-ne-DONE) → let r = t.first_out-out.result in out_from bus_table 0 (let a = t.args in a.source ∷ a.amount ∷ a.destination ∷ []) ≡ some (found r.detail r.value)
 unfolding fields
 out t =
-     told_some (out_from bus_table 0 (let a = t.args in a.source ∷ a.amount ∷ a.destination ∷ [])) t.first_out-out.result t.first_out-out.ensures t.if-out-ne-DONE.true
+    told_some (out_from bus_table 0 (let a = t.args in a.source ∷ a.amount ∷ a.destination ∷ [])) t.first_out-out.result t.first_out-out.ensures t.if-out-ne-DONE.true
 
 whole : (e : Else-out-ne-DONE) → out_from bus_table 0 (let a = e.args in a.source ∷ a.amount ∷ a.destination ∷ []) ≡ none
 unfolding fields
 whole e =
-     told_none (out_from bus_table 0 (let a = e.args in a.source ∷ a.amount ∷ a.destination ∷ [])) e.first_out-out.result e.first_out-out.ensures e.if-out-ne-DONE.false
+    told_none (out_from bus_table 0 (let a = e.args in a.source ∷ a.amount ∷ a.destination ∷ [])) e.first_out-out.result e.first_out-out.ensures e.if-out-ne-DONE.false
 
 pub overflow_add-b-then-out-ne-DONE : goal.overflow_add-b-then-out-ne-DONE
 overflow_add-b-then-out-ne-DONE c =
@@ -53,14 +53,14 @@ overflow_add-b-then-out-ne-DONE c =
 pub returns-then-out-ne-DONE : goal.returns-then-out-ne-DONE
 returns-then-out-ne-DONE c =
     let small : SFits w16 c.first_out-out.result.value = search rules in
-    rw (c.out_of_range.ensures, to_z-of_z small) (sym (ap tested (byte-rows (goal.at.returns-then-out-ne-DONE c).After-first_out-out _ (out (goal.at.returns-then-out-ne-DONE c).Then-out-ne-DONE))))
+    rw (c.out_of_range.ensures, to_z-of_z small) (sym (ap tested (rows_of_bytes (goal.at.returns-then-out-ne-DONE c).After-first_out-out _ (out (goal.at.returns-then-out-ne-DONE c).Then-out-ne-DONE))))
 
 pub returns-then-half_used : goal.returns-then-half_used
 returns-then-half_used c =
     let half = sym c.half_used.ensures ∙ c.if-half_used.true in
-    c.refused.ensures ∙ sym (ap tested (byte-rows (goal.at.returns-then-half_used c).After-first_out-out _ (whole (goal.at.returns-then-half_used c).Else-out-ne-DONE)) ∙ simp half)
+    c.refused.ensures ∙ sym (ap tested (rows_of_bytes (goal.at.returns-then-half_used c).After-first_out-out _ (whole (goal.at.returns-then-half_used c).Else-out-ne-DONE)) ∙ simp half)
 
 pub returns : goal.returns
 returns c =
     let half = sym c.half_used.ensures ∙ c.if-half_used.false in
-    c.done.ensures ∙ sym (ap tested (byte-rows (goal.at.returns c).After-first_out-out _ (whole (goal.at.returns c).Else-out-ne-DONE)) ∙ simp half)
+    c.done.ensures ∙ sym (ap tested (rows_of_bytes (goal.at.returns c).After-first_out-out _ (whole (goal.at.returns c).Else-out-ne-DONE)) ∙ simp half)

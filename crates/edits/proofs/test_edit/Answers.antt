@@ -1,7 +1,6 @@
 -- By what the lookup found: the tests of the value at its place, or 8.
 use mathlib.Core.Path.{sym, ap, ◌∙◌}
 use mathlib.Core.List.{List}
-use borrow.Author.Rules.{rules}
 use Rattle.answers.specs.Table.{Row}
 use Rattle.answers.specs.Effect.{tested}
 use Rattle.fields.specs.Fields.{place_of}

@@ -1,6 +1,5 @@
 -- The tests in the order of the rows: the first that holds gives the answer.
 use mathlib.Core.Path.{◌≡◌, sym, ap, ◌∙◌}
-use borrow.Author.Rules.{rules}
 use borrow.Author.Tests.{lt-ltb, le-ltb, not-true, not-false}
 use mir.Facts.{to_z-of_z}
 use Rattle.ranges.specs.Ranges.{out_from}

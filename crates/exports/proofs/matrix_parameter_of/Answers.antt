@@ -1,5 +1,4 @@
 -- By what the lookup found: its byte, or 255.
-use borrow.Author.Rules.{rules}
 use Rattle.fields.specs.Fields.{parameter_of}
 use Rattle.exports.proofs.Lookups.{parameter_told}
 use Rattle.exports.proofs.matrix_parameter_of.Goals as goal

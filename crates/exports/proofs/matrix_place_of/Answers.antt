@@ -1,5 +1,4 @@
 -- By what the lookup found: its byte, or 255.
-use borrow.Author.Rules.{rules}
 use Rattle.fields.specs.Fields.{place_of}
 use Rattle.exports.proofs.Lookups.{place_told}
 use Rattle.exports.proofs.matrix_place_of.Goals as goal

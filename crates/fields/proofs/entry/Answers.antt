@@ -1,5 +1,5 @@
 -- The code's table is that of specs/, number for number; past the end there is nothing but 0.
-use Rattle.std.proofs.Common.{◌≤◌, [], length, refl, arith, rules}
+use Rattle.std.proofs.Common.{◌≤◌, [], length, refl, arith}
 use lib.ListN.{get_or-eq_default}
 use Rattle.fields.specs.Fields.{fields}
 use Rattle.fields.proofs.Rules.{rows}
@@ -12,4 +12,4 @@ returns-then-k-ge-PLACES c = let out : length fields ≤ c.args.place.0 = omega 
 pub returns : goal.returns
 unfolding fields
 returns c =
-     fields_get c.args.place.0 c.args.column c.requires
+    fields_get c.args.place.0 c.args.column c.requires

@@ -1,5 +1,5 @@
 -- The part that is taken is the range of the place.
-use Rattle.std.proofs.Common.{◌≡◌, ◌+◌, ◌*◌, ◌/◌, ◌%◌, ap, ◌∙◌, arith, rules}
+use Rattle.std.proofs.Common.{◌≡◌, ◌+◌, ◌*◌, ◌/◌, ◌%◌, ap, ◌∙◌, arith}
 use Rattle.fields.specs.code.Columns.{range_at}
 use Rattle.fields.proofs.range_at.Goals as goal
 

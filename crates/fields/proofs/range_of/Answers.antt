@@ -1,5 +1,5 @@
 -- Where the number has a place, both bounds of its field are shown as its values.
-use Rattle.std.proofs.Common.{to_z-of_z, rules}
+use Rattle.std.proofs.Common.{to_z-of_z}
 use Rattle.fields.specs.Fields.{place_of}
 use Rattle.fields.specs.Parameters.{ranging}
 use Rattle.fields.proofs.Places.{found_there, found_nowhere}

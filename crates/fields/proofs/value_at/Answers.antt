@@ -1,5 +1,5 @@
 -- The field is signed where its range goes on from 255 to 0.
-use Rattle.std.proofs.Common.{ap, ◌∙◌, to_z-of_z, rules}
+use Rattle.std.proofs.Common.{ap, ◌∙◌, to_z-of_z}
 use Rattle.ranges.specs.Values.{value_by}
 use Rattle.fields.proofs.Widths.{signed_number}
 use mir.Syntax.{w16}

@@ -1,5 +1,5 @@
 -- What document 01 says of its listing as a whole.
-use Rattle.std.specs.Prelude.{◌≡◌, ℕ, ◌+◌, ◌-◌, ◌*◌, ◌%◌, ◌<◌, ◌≤◌, Bool, true, false, ◌&&◌, ◌||◌, length, ℤ, ◌==◌, nat_le, nat_lt}
+use Rattle.std.specs.Prelude.{◌≡◌, ℕ, ◌+◌, ◌*◌, ◌%◌, ◌<◌, ◌≤◌, Bool, true, false, ◌&&◌, ◌||◌, length, ℤ, ◌==◌, nat_le, nat_lt}
 use Rattle.std.proofs.Math.Option.{none, some}
 use Rattle.ranges.specs.Values.{plus, minus, from_to}
 use Rattle.ranges.specs.promises.Tables.{TableRule, Signs, Apart, Goes}

@@ -1,5 +1,5 @@
-use Rattle.std.proofs.Common.{◌≡◌, ◌+◌, ◌-◌, ◌≤◌, get_or, arith, rules}
-use Rattle.frames.specs.code.Blocks.{None, Ends}
+use Rattle.std.proofs.Common.{◌≡◌, ◌+◌, get_or, arith}
+use Rattle.frames.specs.code.Blocks.{Ends}
 use Rattle.frames.proofs.Blocks.{flag_more, flag_clear}
 use Rattle.frames.proofs.block_breaks.Goals as goal
 

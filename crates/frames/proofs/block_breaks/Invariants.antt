@@ -1,7 +1,6 @@
 -- `block_breaks` sets its flag at a byte in 80H..F7H, which 8 more bring above 87H: where it stays clear, no byte passed is one.
-use Rattle.std.proofs.Common.{◌≡◌, ◌+◌, ◌-◌, ◌≤◌, get_or, arith, rules}
+use Rattle.std.proofs.Common.{◌≡◌, ◌-◌, ◌≤◌}
 use Rattle.frames.specs.code.Blocks.{None, Ends}
-use Rattle.frames.proofs.Blocks.{flag_more, flag_clear}
 use Rattle.frames.proofs.block_breaks.Given as goal
 
 abbrev pub invariant-loop-j : goal.invariant-loop-j

@@ -1,5 +1,5 @@
-use Rattle.std.proofs.Common.{◌≡◌, ◌-◌, ◌≤◌, arith, ltb-false}
-use Rattle.frames.proofs.Blocks.{Upto, upto_more}
+use Rattle.std.proofs.Common.{◌≡◌, arith, ltb-false}
+use Rattle.frames.proofs.Blocks.{upto_more}
 use Rattle.frames.proofs.block_ends.Goals as goal
 
 pub loop-j-init : goal.loop-j-init

@@ -1,6 +1,6 @@
 -- `block_ends` puts the bytes together bit by bit, and no byte is above what they come to.
-use Rattle.std.proofs.Common.{◌≡◌, ◌-◌, ◌≤◌, arith, ltb-false}
-use Rattle.frames.proofs.Blocks.{Upto, upto_more}
+use Rattle.std.proofs.Common.{◌-◌, ◌≤◌}
+use Rattle.frames.proofs.Blocks.{Upto}
 use Rattle.frames.proofs.block_ends.Given as goal
 
 abbrev pub invariant-loop-j : goal.invariant-loop-j

@@ -1,4 +1,4 @@
-use Rattle.std.proofs.Common.{◌≡◌, ℕ, ◌+◌, ◌-◌, ◌/◌, ◌<◌, ◌≤◌, get_or, sym, arith}
+use Rattle.std.proofs.Common.{◌≡◌, ℕ, ◌+◌, ◌/◌, ◌<◌, get_or, sym, arith}
 use Rattle.frames.specs.code.Blocks.{None, Ends, heard_among}
 use Rattle.streams.proofs.Noise.{noise_none}
 use Rattle.frames.proofs.Blocks.{heard_next, noise_quotient}

@@ -1,8 +1,6 @@
 -- `block_noise` adds a quotient for each byte: where none of those passed ends a message, the sum is the real time among them.
-use Rattle.std.proofs.Common.{◌≡◌, ℕ, ◌+◌, ◌-◌, ◌/◌, ◌<◌, ◌≤◌, get_or, sym, arith}
+use Rattle.std.proofs.Common.{◌≡◌, ◌-◌, ◌≤◌}
 use Rattle.frames.specs.code.Blocks.{None, Ends, heard_among}
-use Rattle.streams.proofs.Noise.{noise_none}
-use Rattle.frames.proofs.Blocks.{heard_next, noise_quotient}
 use Rattle.frames.proofs.block_noise.Given as goal
 
 abbrev pub invariant-loop-j : goal.invariant-loop-j

@@ -1,5 +1,4 @@
-use Rattle.std.proofs.Common.{◌≡◌, ◌-◌, ◌≤◌, arith}
-use Rattle.frames.specs.code.Blocks.{None}
+use Rattle.std.proofs.Common.{◌≡◌, arith}
 use Rattle.frames.proofs.Blocks.{flag_more, flag_clear}
 use Rattle.frames.proofs.block_starts.Goals as goal
 

@@ -1,7 +1,6 @@
 -- `block_starts` sets its flag at an F0H: where it stays clear, no byte passed is one.
-use Rattle.std.proofs.Common.{◌≡◌, ◌-◌, ◌≤◌, arith}
+use Rattle.std.proofs.Common.{◌≡◌, ◌-◌, ◌≤◌}
 use Rattle.frames.specs.code.Blocks.{None}
-use Rattle.frames.proofs.Blocks.{flag_more, flag_clear}
 use Rattle.frames.proofs.block_starts.Given as goal
 
 abbrev pub invariant-loop-j : goal.invariant-loop-j

@@ -1,7 +1,6 @@
-use Rattle.std.proofs.Common.{◌≡◌, ℕ, ◌+◌, ◌-◌, List, [], length, get_or, drop, ap, ◌∙◌, not-le_of_lt, arith, drop_of_length-le}
+use Rattle.std.proofs.Common.{◌≡◌, ℕ, ◌+◌, List, [], length, drop, ap, ◌∙◌, not-le_of_lt, arith, drop_of_length-le}
 use Rattle.streams.specs.Bytes.{body, real_time_in}
 use Rattle.frames.specs.code.Extent.{span_of, ending_of}
-use Rattle.frames.specs.code.Blocks.{Onward}
 use Rattle.frames.specs.declared.Span.{Span}
 use Rattle.streams.proofs.Noise.{noise_none}
 use Rattle.frames.proofs.Extent.{split, body_ended, body_end}

@@ -1,5 +1,4 @@
-use Rattle.std.proofs.Common.{◌≡◌, ◌+◌, ◌-◌, ◌≤◌, length, drop, arith, rules}
-use Rattle.frames.specs.code.Extent.{ahead}
+use Rattle.std.proofs.Common.{arith}
 use Rattle.frames.proofs.Extent.{ahead_other, ahead_found, ahead_end}
 use Rattle.frames.proofs.find_start.Goals as goal
 

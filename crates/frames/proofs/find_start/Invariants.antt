@@ -1,8 +1,7 @@
 -- `find_start` counts the bytes before the first F0H, behind the blocks that have none: what is left to count is the same count from
 -- the index on.
-use Rattle.std.proofs.Common.{◌≡◌, ◌+◌, ◌-◌, ◌≤◌, length, drop, arith, rules}
+use Rattle.std.proofs.Common.{◌≡◌, ◌+◌, ◌-◌, ◌≤◌, length, drop}
 use Rattle.frames.specs.code.Extent.{ahead}
-use Rattle.frames.proofs.Extent.{ahead_other, ahead_found, ahead_end}
 use Rattle.frames.proofs.find_start.Given as goal
 
 abbrev pub invariant-loop-i : goal.invariant-loop-i

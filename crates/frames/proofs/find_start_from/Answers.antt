@@ -1,5 +1,5 @@
 -- `find_start_from` counts from a place on; past the end there is nothing to count.
-use Rattle.std.proofs.Common.{◌≡◌, drop, sym, arith, length-drop, rules}
+use Rattle.std.proofs.Common.{◌≡◌, drop, sym, arith, length-drop}
 use Rattle.answers.proofs.Lists.{to_end}
 use Rattle.frames.specs.code.Extent.{ahead, start_at}
 use Rattle.frames.proofs.Extent.{ahead_within, start_past}

@@ -1,5 +1,5 @@
-use Rattle.std.proofs.Common.{◌≡◌, ◌+◌, ◌-◌, length, drop, refl, arith}
-use Rattle.frames.specs.code.Extent.{real_time_ahead, past_real_time}
+use Rattle.std.proofs.Common.{refl, arith}
+use Rattle.frames.specs.code.Extent.{past_real_time}
 use Rattle.frames.proofs.RealTime.{past_more, past_found, past_end}
 use Rattle.frames.proofs.past_real_time.Goals as goal
 

@@ -1,7 +1,6 @@
 -- `past_real_time` goes on over real time: what is left to pass is the same count from the index on.
-use Rattle.std.proofs.Common.{◌≡◌, ◌+◌, ◌-◌, length, drop, refl, arith}
+use Rattle.std.proofs.Common.{◌≡◌, ◌+◌, ◌-◌, length, drop}
 use Rattle.frames.specs.code.Extent.{real_time_ahead, past_real_time}
-use Rattle.frames.proofs.RealTime.{past_more, past_found, past_end}
 use Rattle.frames.proofs.past_real_time.Given as goal
 
 abbrev pub invariant-loop-i : goal.invariant-loop-i

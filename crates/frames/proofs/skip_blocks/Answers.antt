@@ -1,4 +1,4 @@
-use Rattle.std.proofs.Common.{◌≡◌, ◌+◌, ◌-◌, length, arith, rules}
+use Rattle.std.proofs.Common.{◌≡◌, ◌+◌, arith}
 use Rattle.frames.specs.code.Blocks.{Ahead}
 use Rattle.frames.proofs.Blocks.{ahead_none, ahead_more}
 use Rattle.frames.proofs.skip_blocks.Goals.{Else-block_starts}

@@ -1,7 +1,6 @@
 -- `skip_blocks` passes block after block that has no F0H: behind each, what is left to count starts there.
-use Rattle.std.proofs.Common.{◌≡◌, ◌+◌, ◌-◌, length, arith, rules}
+use Rattle.std.proofs.Common.{◌-◌, length}
 use Rattle.frames.specs.code.Blocks.{Ahead}
-use Rattle.frames.proofs.Blocks.{ahead_none, ahead_more}
 use Rattle.frames.proofs.skip_blocks.Given as goal
 
 abbrev pub invariant-loop-i : goal.invariant-loop-i

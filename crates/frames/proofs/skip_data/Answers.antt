@@ -1,5 +1,3 @@
-use Rattle.std.proofs.Common.{◌-◌, length, arith}
-use Rattle.frames.specs.code.Blocks.{Onward}
 use Rattle.frames.proofs.Blocks.{onward_none, onward_quiet}
 use Rattle.frames.proofs.skip_data.Goals as goal
 

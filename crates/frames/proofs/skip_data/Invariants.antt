@@ -1,7 +1,6 @@
 -- `skip_data` passes block after block of data bytes: behind each, what is left of the body starts there.
-use Rattle.std.proofs.Common.{◌-◌, length, arith}
+use Rattle.std.proofs.Common.{◌-◌, length}
 use Rattle.frames.specs.code.Blocks.{Onward}
-use Rattle.frames.proofs.Blocks.{onward_none, onward_quiet}
 use Rattle.frames.proofs.skip_data.Given as goal
 
 abbrev pub invariant-loop-i : goal.invariant-loop-i

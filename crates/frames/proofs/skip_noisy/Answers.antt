@@ -1,5 +1,4 @@
-use Rattle.std.proofs.Common.{◌+◌, ◌-◌, length, arith, rules}
-use Rattle.frames.specs.code.Blocks.{Onward}
+use Rattle.std.proofs.Common.{arith}
 use Rattle.frames.proofs.Blocks.{onward_more}
 use Rattle.frames.proofs.skip_noisy.Goals as goal
 

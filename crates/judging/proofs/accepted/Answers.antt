@@ -1,5 +1,4 @@
 -- `accepted` is done with the opcode.
-use borrow.Author.Rules.{rules}
 use Rattle.judging.proofs.accepted.Goals as goal
 
 pub returns : goal.returns

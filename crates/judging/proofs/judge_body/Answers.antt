@@ -2,7 +2,6 @@
 use mathlib.Core.Path.{ap, ◌∙◌}
 use mathlib.Core.List.{List}
 use Prim.Native.Nat.{ℕ}
-use borrow.Author.Rules.{rules}
 use Rattle.streams.specs.Bytes.{framed}
 use Rattle.messages.specs.Judge.{judge}
 use Rattle.judging.specs.code.Judged.{judged}

@@ -2,7 +2,6 @@
 use mathlib.Core.Path.{◌≡◌, ◌∙◌, sym}
 use native.Mathlib.Omega.{arith}
 use lib.ListN.{get_or}
-use borrow.Author.Rules.{rules}
 use Rattle.streams.specs.Bytes.{framed}
 use Rattle.messages.specs.Judge.{byte_at}
 use Rattle.messages.specs.Kinds.{kind_of}

@@ -1,5 +1,4 @@
 -- `judge_from` finds the end, then goes by how the message ends: cut or interrupted, or judged.
-use borrow.Author.Rules.{rules}
 use Rattle.judging.proofs.Spans.{span_taken, span_noise, heard_ended, heard_judged}
 use Rattle.judging.proofs.judge_from.Goals as goal
 

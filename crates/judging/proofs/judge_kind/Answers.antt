@@ -1,7 +1,6 @@
 -- `judge_kind` judges by the kind that the opcode finds, which has the length that its parts add up to.
 use mathlib.Core.Path.{◌∙◌, sym, subst}
 use lib.Dec.{T}
-use borrow.Author.Rules.{rules}
 use Rattle.messages.specs.declared.kinds.Kind.{Kind}
 use Rattle.messages.specs.code.Sizes.{sized}
 use Rattle.messages.proofs.Filed.{kind_sized}

@@ -3,7 +3,6 @@ use mathlib.Core.Path.{sym, subst}
 use mathlib.Core.List.{List}
 use Prim.Native.Nat.{ℕ}
 use lib.Seq.{length-take-le}
-use borrow.Author.Rules.{rules}
 use Rattle.answers.specs.Effect.{Gives}
 use Rattle.streams.specs.Bytes.{framed}
 use Rattle.messages.specs.Judge.{judge}
@@ -19,4 +18,4 @@ returns c =
 
 pub slice_bounds-count_content-end : goal.slice_bounds-count_content-end
 slice_bounds-count_content-end c =
-     sym (length-take-le c.args.n c.args.rest.now c.requires.0)
+    sym (length-take-le c.args.n c.args.rest.now c.requires.0)

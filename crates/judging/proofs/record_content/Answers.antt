@@ -5,7 +5,6 @@ use Prim.Native.Nat.{ℕ, ◌≤◌}
 use native.Mathlib.Omega.{arith}
 use lib.ListN.{length, take}
 use lib.Seq.{length-take-le}
-use borrow.Author.Rules.{rules}
 use Rattle.messages.specs.Kinds.{kind_of}
 use Rattle.messages.specs.code.Sizes.{packed_size}
 use Rattle.messages.proofs.Accepted.{Accepted}
@@ -19,8 +18,8 @@ content j = let a = j.args in content_by a.count (take a.n a.rest.now)
 
 -- The part of the bytes that is the message's body.
 
-body-length : (b : List ℕ) (n : ℕ) → n ≤ length b → n ≡ length (take n b)
-body-length b n h = sym (length-take-le n b h)
+body_length : (b : List ℕ) (n : ℕ) → n ≤ length b → n ≡ length (take n b)
+body_length b n h = sym (length-take-le n b h)
 
 pub returns-then-j-ne-DONE : goal.returns-then-j-ne-DONE
 returns-then-j-ne-DONE c =
@@ -31,7 +30,7 @@ returns-then-j-ne-DONE c =
 
 its : (e : Else-j-ne-DONE) → Accepted (let a = e.args in content_by a.count (take a.n a.rest.now))
 its e =
-     accepted_so (let a = e.args in content_by a.count (take a.n a.rest.now)) e.judge_content-j.result e.judge_content-j.ensures e.if-j-ne-DONE.false
+    accepted_so (let a = e.args in content_by a.count (take a.n a.rest.now)) e.judge_content-j.result e.judge_content-j.ensures e.if-j-ne-DONE.false
 
 pub byte_at-requires : goal.byte_at-requires
 byte_at-requires c =
@@ -82,18 +81,18 @@ returns-else-size-gt0 c =
 
 pub slice_bounds-judge_content-end : goal.slice_bounds-judge_content-end
 slice_bounds-judge_content-end c =
-     body-length c.args.rest.now c.args.n c.requires.0
+    body_length c.args.rest.now c.args.n c.requires.0
 
 pub judge_content-j-requires : goal.judge_content-j-requires
 judge_content-j-requires c = c.requires.1
 
 pub slice_bounds-byte_at-end : goal.slice_bounds-byte_at-end
 slice_bounds-byte_at-end c =
-     body-length c.args.rest.now c.args.n c.requires.0
+    body_length c.args.rest.now c.args.n c.requires.0
 
 pub slice_bounds-pack_data-end : goal.slice_bounds-pack_data-end
 slice_bounds-pack_data-end c =
-     body-length c.args.rest.now c.args.n c.requires.0
+    body_length c.args.rest.now c.args.n c.requires.0
 
 pub slice_bounds-pack_data-end-then-size-gt0-2 : goal.slice_bounds-pack_data-end-then-size-gt0-2
 slice_bounds-pack_data-end-then-size-gt0-2 c = sym (room (goal.at.slice_bounds-pack_data-end-then-size-gt0-2 c).Then-size-gt0)

@@ -1,5 +1,4 @@
 -- `record_from` finds the end, then goes by how the message ends: cut or interrupted, or its record.
-use borrow.Author.Rules.{rules}
 use Rattle.judging.proofs.Spans.{span_within, span_noise, recorded_ended, recorded_judged}
 use Rattle.judging.proofs.record_from.Goals as goal
 

@@ -1,5 +1,4 @@
 -- `refused_by` is refused with detail 0.
-use borrow.Author.Rules.{rules}
 use Rattle.judging.proofs.refused_by.Goals as goal
 
 pub returns : goal.returns

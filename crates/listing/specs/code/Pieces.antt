@@ -3,7 +3,7 @@ use Rattle.std.specs.Prelude.{◌≡◌, cond, ◌&&◌, List, [], ◌∷◌, �
 use Rattle.streams.specs.Stream.{Report}
 use Rattle.streams.specs.code.Scan.{outside, scan}
 use Rattle.messages.specs.Judge.{judge}
-use Rattle.reading.specs.code.Rooms.{width, most as reportsMost}
+use Rattle.reading.specs.code.Rooms.{width, most as reports_most}
 use Rattle.listing.specs.Listing.{lines, total, listing_of}
 use Rattle.listing.specs.declared.Left.{Left}
 use Rattle.listing.specs.declared.Left.TheVariants.{Whole, From, Nothing}
@@ -31,7 +31,7 @@ calls_left s Nothing = 0
 
 -- A room of this many bytes or more takes the lines of 8 reports: 20 digits and the byte behind them for each number, and a sign.
 abbrev pub least_room : ℕ
-least_room = reportsMost * (width * 21 + 1)
+least_room = reports_most * (width * 21 + 1)
 
 -- What a call gives: a piece, at the room's start, the room's other bytes kept. The piece and what is left then are what was left before. In
 -- a room that is long enough fewer calls may follow than before, so that nothing is left in the end; a shorter one gets an empty piece.

@@ -3,15 +3,15 @@ use Rattle.std.specs.Prelude.{◌≡◌, List, ℕ}
 use Rattle.std.proofs.Math.Option.{none}
 use Rattle.answers.specs.Table.{answer_of}
 use Rattle.answers.specs.Effect.{tested}
-use Rattle.messages.specs.Kinds.{Dump, ofDump, split_patch, master_parameters, shape_of, kind_of}
+use Rattle.messages.specs.Kinds.{Dump, of_dump, split_patch, master_parameters, shape_of, kind_of}
 use Rattle.messages.specs.Judge.{byte_at, judge}
 use Rattle.messages.specs.Layout.{given_rows}
 use Rattle.messages.specs.code.Sizes.{lent_rows}
 
 -- No dump of a kind is answered n: a complete message, what its writer is given, packed bytes that are lent.
 pub record NeverFor (k : Dump) (n : ℕ) : Type 0 where
-  pub read : (m : List ℕ) → kind_of (byte_at m 3) ≡ ofDump k → answer_of (judge m) ≡ n → ⊥
-  pub written : (b p : List ℕ) → (tested (given_rows (ofDump k) b p)).answer ≡ n → ⊥
+  pub read : (m : List ℕ) → kind_of (byte_at m 3) ≡ of_dump k → answer_of (judge m) ≡ n → ⊥
+  pub written : (b p : List ℕ) → (tested (given_rows (of_dump k) b p)).answer ≡ n → ⊥
   pub lent : (p : List ℕ) → (tested (lent_rows k.packed p)).answer ≡ n → ⊥
 
 pub record NeverGiven : Type 0 where

@@ -1,6 +1,5 @@
 -- Each arm is that of `shown`.
 use borrow.Author.Tests.{lt-ltb, le-ltb}
-use borrow.Author.Rules.{rules}
 use Rattle.names.specs.Names.{shown}
 use Rattle.names.proofs.character.Goals as goal
 

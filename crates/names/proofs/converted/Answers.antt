@@ -1,5 +1,4 @@
 -- Each way has its own conversion.
-use borrow.Author.Rules.{rules}
 use Rattle.names.proofs.converted.Goals as goal
 
 pub returns-in-Stored : goal.returns-in-Stored

@@ -1,10 +1,6 @@
-use mathlib.Core.Path.{refl}
-use Prim.Native.Nat.{◌-◌}
 use native.Mathlib.Omega.{arith}
-use lib.ListN.{length}
-use borrow.Author.Rules.{rules}
 use Rattle.names.specs.code.Ways.{by}
-use Rattle.names.proofs.Steps.{Wrote, wrote_next, wrote_all}
+use Rattle.names.proofs.Steps.{wrote_next, wrote_all}
 use Rattle.names.proofs.put_name.Goals as goal
 
 pub loop-i-preserved : goal.loop-i-preserved

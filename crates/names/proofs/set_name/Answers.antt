@@ -3,7 +3,6 @@ use mathlib.Core.Path.{◌≡◌, sym, ◌∙◌}
 use mathlib.Core.List.{List, [], ◌++◌, map}
 use Prim.Native.Nat.{ℕ}
 use lib.ListN.{drop}
-use borrow.Author.Rules.{rules}
 use borrow.Author.Tests.{eq-eqb, ne_eqb}
 use Rattle.answers.specs.Table.{done, first}
 use Rattle.answers.specs.Effect.{changed, tested}
@@ -20,9 +19,9 @@ named t = map stored t.args.text.now ++ drop 8 t.args.p.now
 
 -- Where the fields have been tested, both lengths and the characters have passed.
 
-tests-passed : (t : After-test-before)
+tests_passed : (t : After-test-before)
     → naming t.args.p.now t.args.text.now ≡ changed 0 (named t) t.args.p.now (first (field_rows t.args.p.now) (done 0 [] []))
-tests-passed t =
+tests_passed t =
     let allowed = sym t.any_outside.ensures ∙ t.if-any_outside.false in
     naming_fields t.args.p.now t.args.text.now t.if-p-ne-SIZE.false t.if-text-ne-NAME_SIZE.false allowed
 
@@ -55,7 +54,7 @@ returns-then-any_outside c =
 pub returns-then-before-ne-DONE : goal.returns-then-before-ne-DONE
 returns-then-before-ne-DONE c =
     let s = (goal.at.returns-then-before-ne-DONE c).After-test-before in
-    rw (tests-passed s)
+    rw (tests_passed s)
     (gives_kept 0 (named s) c.args.p.now (field_rows c.args.p.now) [] (done 0 [] []) c.test-before.result (answered s) c.if-before-ne-DONE.true)
 
 pub returns : goal.returns
@@ -63,5 +62,5 @@ returns c =
     let s = (goal.at.returns c).After-test-before in
     let rows = field_rows c.args.p.now in
     let silent = passed rows c.test-before.result (field_refusals c.args.p.now) (answered s) c.if-before-ne-DONE.false in
-    let stored-now = rw c.if-text-ne-NAME_SIZE.false at c.put_name.ensures in
-    rw (tests-passed s) (gives_changed 0 (named s) c.args.p.now rows c.done.result c.put_name.new.out silent c.done.ensures stored-now)
+    let stored_now = rw c.if-text-ne-NAME_SIZE.false at c.put_name.ensures in
+    rw (tests_passed s) (gives_changed 0 (named s) c.args.p.now rows c.done.result c.put_name.new.out silent c.done.ensures stored_now)

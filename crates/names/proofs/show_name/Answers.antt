@@ -5,7 +5,6 @@ use Prim.Native.Nat.{ℕ}
 use native.Mathlib.Omega.{arith}
 use lib.ListN.{length, take, length-map}
 use lib.Seq.{length-take-le}
-use borrow.Author.Rules.{rules}
 use Rattle.answers.proofs.Effects.{passed, gives_stopped, gives_short, gives_written}
 use Rattle.answers.specs.promises.Decides.{Silent}
 use Rattle.patch.specs.Patch.{patch_rows}
@@ -34,7 +33,7 @@ size t z = length_shown t.args.p.now (patch_length t.args.p.now (silent t z))
 pub returns-then-tested-ne-DONE : goal.returns-then-tested-ne-DONE
 unfolding showing
 returns-then-tested-ne-DONE c =
-     gives_stopped (patch_rows c.args.p.now) (bytes (goal.at.returns-then-tested-ne-DONE c).After-test-tested) c.args.out.now c.test-tested.result c.test-tested.ensures c.if-tested-ne-DONE.true
+    gives_stopped (patch_rows c.args.p.now) (bytes (goal.at.returns-then-tested-ne-DONE c).After-test-tested) c.args.out.now c.test-tested.result c.test-tested.ensures c.if-tested-ne-DONE.true
 
 pub returns-then-out-lt-NAME_SIZE : goal.returns-then-out-lt-NAME_SIZE
 unfolding showing

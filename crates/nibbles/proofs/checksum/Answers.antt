@@ -1,4 +1,4 @@
-use Rattle.std.proofs.Common.{◌≡◌, ℕ, ◌-◌, ◌%◌, ◌≤◌, length, drop, sym, ap, ◌∙◌, arith, rules}
+use Rattle.std.proofs.Common.{◌≡◌, ℕ, ◌%◌, sym, ap, ◌∙◌, arith}
 use Rattle.nibbles.specs.promises.Reduced.{reducing}
 use Rattle.nibbles.proofs.Laws.{reduced, reducing_drop, reducing_end}
 use Rattle.nibbles.proofs.checksum.Goals as goal

@@ -1,8 +1,7 @@
 -- `checksum` gives the sum of the bytes. The invariant: what was added up, with the bytes that are left, reduced at each step, is the whole so
 -- reduced; a `u8` wraps at 256. What was added up is reduced once more by 128, and by `Reduced` that is the sum.
-use Rattle.std.proofs.Common.{◌≡◌, ℕ, ◌-◌, ◌%◌, ◌≤◌, length, drop, sym, ap, ◌∙◌, arith, rules}
+use Rattle.std.proofs.Common.{◌≡◌, ◌-◌, ◌≤◌, length, drop}
 use Rattle.nibbles.specs.promises.Reduced.{reducing}
-use Rattle.nibbles.proofs.Laws.{reduced, reducing_drop, reducing_end}
 use Rattle.nibbles.proofs.checksum.Given as goal
 
 abbrev pub invariant-loop-i : goal.invariant-loop-i

@@ -1,6 +1,6 @@
-use Rattle.std.proofs.Common.{◌≡◌, ◌-◌, ◌≤◌, length, drop, sym, refl, ap, ◌∙◌, arith, drop-cons, rules}
+use Rattle.std.proofs.Common.{◌≡◌, drop, sym, ap, ◌∙◌, arith, drop-cons}
 use mathlib.Core.Option.{some}
-use Rattle.nibbles.specs.Nibbles.{wide_from, first_wide}
+use Rattle.nibbles.specs.Nibbles.{wide_from}
 use Rattle.ranges.specs.code.Found.{found_at}
 use Rattle.nibbles.proofs.Laws.{wide_here}
 use Rattle.nibbles.proofs.Passing.{wide_passed, wide_end}

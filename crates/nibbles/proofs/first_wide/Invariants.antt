@@ -1,10 +1,6 @@
 -- `first_wide` gives the index of the first byte above 15. The invariant: the search over the whole is the search from the byte at hand on.
-use Rattle.std.proofs.Common.{◌≡◌, ◌-◌, ◌≤◌, length, drop, sym, refl, ap, ◌∙◌, arith, drop-cons, rules}
-use mathlib.Core.Option.{some}
+use Rattle.std.proofs.Common.{◌≡◌, ◌-◌, ◌≤◌, length, drop}
 use Rattle.nibbles.specs.Nibbles.{wide_from, first_wide}
-use Rattle.ranges.specs.code.Found.{found_at}
-use Rattle.nibbles.proofs.Laws.{wide_here}
-use Rattle.nibbles.proofs.Passing.{wide_passed, wide_end}
 use Rattle.nibbles.proofs.first_wide.Given as goal
 
 abbrev pub invariant-loop-i : goal.invariant-loop-i

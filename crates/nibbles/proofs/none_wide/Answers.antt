@@ -1,5 +1,4 @@
-use Rattle.std.proofs.Common.{◌≡◌, ◌-◌, ◌≤◌, length, drop, refl, ◌∙◌, arith, eqb-true}
-use Rattle.nibbles.specs.Nibbles.{wide_from, first_wide}
+use Rattle.std.proofs.Common.{refl, ◌∙◌, arith, eqb-true}
 use Rattle.nibbles.proofs.Passing.{wide_passed, wide_end}
 use Rattle.nibbles.proofs.none_wide.Goals as goal
 

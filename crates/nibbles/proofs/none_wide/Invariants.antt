@@ -1,7 +1,6 @@
 -- The flag is set at a byte above 15: where it stays clear, the search over the whole is the search from the byte at hand on.
-use Rattle.std.proofs.Common.{◌≡◌, ◌-◌, ◌≤◌, length, drop, refl, ◌∙◌, arith, eqb-true}
+use Rattle.std.proofs.Common.{◌≡◌, ◌-◌, ◌≤◌, length, drop}
 use Rattle.nibbles.specs.Nibbles.{wide_from, first_wide}
-use Rattle.nibbles.proofs.Passing.{wide_passed, wide_end}
 use Rattle.nibbles.proofs.none_wide.Given as goal
 
 abbrev pub invariant-loop-i : goal.invariant-loop-i

@@ -1,6 +1,6 @@
 -- `pack_into` tests the number of nibbles, their width and the room, in this order, and then writes: each return is a case of `packing`.
 -- In the arm of `Nowhere` no byte is wide.
-use Rattle.std.proofs.Common.{◌≡◌, sym, refl, ◌∙◌, arith, rules}
+use Rattle.std.proofs.Common.{◌≡◌, sym, refl, ◌∙◌, arith}
 use mathlib.Core.Option.{none}
 use Rattle.ranges.proofs.Found.{found_some, found_none}
 use Rattle.nibbles.specs.Nibbles.{first_wide}

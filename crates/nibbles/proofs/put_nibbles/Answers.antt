@@ -1,6 +1,6 @@
-use Rattle.std.proofs.Common.{◌≡◌, ℕ, ◌-◌, ◌*◌, ◌/◌, ◌%◌, List, [], ◌∷◌, length, get_or, take, refl, ◌∙◌, arith, length-set, length-take-le}
+use Rattle.std.proofs.Common.{◌≡◌, ℕ, ◌*◌, ◌/◌, ◌%◌, List, [], ◌∷◌, length, get_or, take, refl, ◌∙◌, arith, length-set, length-take-le}
 use lib.Seq.{take-length}
-use Rattle.answers.proofs.Copied.{Copied, copied_next}
+use Rattle.answers.proofs.Copied.{copied_next}
 use Rattle.nibbles.specs.Nibbles.{nibbles}
 use Rattle.nibbles.proofs.Laws.{length_nibbles, nibbles_take}
 use Rattle.nibbles.proofs.put_nibbles.Goals as goal

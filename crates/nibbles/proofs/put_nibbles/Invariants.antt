@@ -1,9 +1,7 @@
 -- `put_nibbles` writes the nibbles at the start of the output: each turn those of one byte, behind the nibbles of the bytes passed.
-use Rattle.std.proofs.Common.{◌≡◌, ℕ, ◌-◌, ◌*◌, ◌/◌, ◌%◌, List, [], ◌∷◌, length, get_or, take, refl, ◌∙◌, arith, length-set, length-take-le}
-use lib.Seq.{take-length}
-use Rattle.answers.proofs.Copied.{Copied, copied_next}
+use Rattle.std.proofs.Common.{ℕ, ◌-◌, List, length, take}
+use Rattle.answers.proofs.Copied.{Copied}
 use Rattle.nibbles.specs.Nibbles.{nibbles}
-use Rattle.nibbles.proofs.Laws.{length_nibbles, nibbles_take}
 use Rattle.nibbles.proofs.put_nibbles.Given as goal
 
 abbrev passed : List ℕ → ℕ → List ℕ

@@ -1,6 +1,6 @@
-use Rattle.std.proofs.Common.{◌≡◌, ℕ, ◌+◌, ◌-◌, ◌*◌, ◌/◌, ◌<◌, ◌≤◌, List, [], ◌∷◌, ◌++◌, length, get_or, take, sym, refl, ap, ◌∙◌, arith, length-take-le}
+use Rattle.std.proofs.Common.{◌≡◌, ℕ, ◌+◌, ◌*◌, ◌/◌, ◌<◌, ◌≤◌, List, [], ◌∷◌, ◌++◌, length, get_or, take, sym, refl, ap, ◌∙◌, arith, length-take-le}
 use Rattle.answers.proofs.Lists.{all_get}
-use Rattle.answers.proofs.Copied.{Copied, copied_next}
+use Rattle.answers.proofs.Copied.{copied_next}
 use Rattle.nibbles.specs.Nibbles.{pack}
 use Rattle.nibbles.proofs.Laws.{length_pack, pack_take, pack_whole, wide_none}
 use Rattle.nibbles.proofs.Passing.{word_packed}

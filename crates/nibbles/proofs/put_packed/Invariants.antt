@@ -1,11 +1,8 @@
 -- `put_packed` writes the packed bytes at the start of the output. The invariant: the output is the packed bytes of the pairs passed, then its
 -- old bytes. That no nibble is wide keeps each packed byte below 256.
-use Rattle.std.proofs.Common.{◌≡◌, ℕ, ◌+◌, ◌-◌, ◌*◌, ◌/◌, ◌<◌, ◌≤◌, List, [], ◌∷◌, ◌++◌, length, get_or, take, sym, refl, ap, ◌∙◌, arith, length-take-le}
-use Rattle.answers.proofs.Lists.{all_get}
-use Rattle.answers.proofs.Copied.{Copied, copied_next}
+use Rattle.std.proofs.Common.{ℕ, ◌-◌, ◌*◌, List, take}
+use Rattle.answers.proofs.Copied.{Copied}
 use Rattle.nibbles.specs.Nibbles.{pack}
-use Rattle.nibbles.proofs.Laws.{length_pack, pack_take, pack_whole, wide_none}
-use Rattle.nibbles.proofs.Passing.{word_packed}
 use Rattle.nibbles.proofs.put_packed.Given as goal
 
 abbrev passed : List ℕ → ℕ → List ℕ

@@ -1,5 +1,5 @@
 -- `unpack_into` tests the room and then writes: each return is a case of `unpacking`.
-use Rattle.std.proofs.Common.{refl, arith, rules}
+use Rattle.std.proofs.Common.{refl, arith}
 use Rattle.nibbles.proofs.Laws.{unpacking_short, unpacking_done}
 use Rattle.nibbles.proofs.unpack_into.Goals as goal
 

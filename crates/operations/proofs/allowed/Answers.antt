@@ -3,10 +3,9 @@ use mathlib.Core.Path.{◌≡◌, sym, ◌∙◌, ap}
 use mathlib.Core.List.{List}
 use Prim.Native.Nat.{ℕ}
 use lib.ListN.{length}
-use borrow.Author.Rules.{rules}
 use Rattle.answers.specs.Lists.{bytes_from}
 use Rattle.answers.proofs.Lists.{spelled}
-use Rattle.operations.specs.Operations.{Operation, bytes_of, allowed as allowedFor}
+use Rattle.operations.specs.Operations.{Operation, bytes_of, allowed as allowed_for}
 use Rattle.operations.proofs.Forms.{alone, other_count}
 use Rattle.operations.proofs.allowed.Goals as goal
 
@@ -17,28 +16,28 @@ returns-then-bytes-count_of c =
 
 -- The operation that is told, with its bytes spelled out: there are n of them, as many as it has.
 
-told-as : (o p : Operation) (b : List ℕ) (n : ℕ) → o ≡ p → n ≡ bytes_of o → length b ≡ n → allowedFor p (bytes_from (bytes_of p) 0 b) ≡ allowedFor o b
-told-as o p b n e q l = rw e (ap (allowedFor p) (sym (spelled b (bytes_of p) (l ∙ q ∙ ap bytes_of e))))
+told_as : (o p : Operation) (b : List ℕ) (n : ℕ) → o ≡ p → n ≡ bytes_of o → length b ≡ n → allowed_for p (bytes_from (bytes_of p) 0 b) ≡ allowed_for o b
+told_as o p b n e q l = rw e (ap (allowed_for p) (sym (spelled b (bytes_of p) (l ∙ q ∙ ap bytes_of e))))
 
 pub returns-in-Request : goal.returns-in-Request
 returns-in-Request c =
     rw (c.byte_or_zero.ensures, c.byte_or_zero-in-Request.ensures) at c.request_allowed.ensures
-    ∙ told-as _ _ _ _ c.in-Request.is c.count_of.ensures c.if-bytes-count_of.false
+    ∙ told_as _ _ _ _ c.in-Request.is c.count_of.ensures c.if-bytes-count_of.false
 
 pub returns-in-Group : goal.returns-in-Group
 returns-in-Group c =
     rw (c.byte_or_zero-in-Group.ensures, c.byte_or_zero-in-Group-2.ensures) at c.group_allowed.ensures
-    ∙ told-as _ _ _ _ c.in-Group.is c.count_of.ensures c.if-bytes-count_of.false
+    ∙ told_as _ _ _ _ c.in-Group.is c.count_of.ensures c.if-bytes-count_of.false
 
 pub returns-in-Bank : goal.returns-in-Bank
-unfolding allowedFor
+unfolding allowed_for
 returns-in-Bank c =
-    rw c.byte_or_zero-in-Bank.ensures (alone _ ∙ told-as _ _ _ _ c.in-Bank.is c.count_of.ensures c.if-bytes-count_of.false)
+    rw c.byte_or_zero-in-Bank.ensures (alone _ ∙ told_as _ _ _ _ c.in-Bank.is c.count_of.ensures c.if-bytes-count_of.false)
 
 pub returns-in-Unlock : goal.returns-in-Unlock
-unfolding allowedFor
+unfolding allowed_for
 returns-in-Unlock c =
-     told-as _ _ _ _ c.in-Unlock.is c.count_of.ensures c.if-bytes-count_of.false
+    told_as _ _ _ _ c.in-Unlock.is c.count_of.ensures c.if-bytes-count_of.false
 
 pub returns-in-Store : goal.returns-in-Store
 returns-in-Store c =
@@ -47,4 +46,4 @@ returns-in-Store c =
       c.byte_or_zero-in-Store-2.ensures,
       c.byte_or_zero-in-Store-3.ensures,
     ) at c.store_allowed.ensures
-    ∙ told-as _ _ _ _ c.in-Store.is c.count_of.ensures c.if-bytes-count_of.false
+    ∙ told_as _ _ _ _ c.in-Store.is c.count_of.ensures c.if-bytes-count_of.false

@@ -1,7 +1,6 @@
 -- `byte_or_zero`: behind the last byte there is zero.
 use mathlib.Core.Path.{sym}
 use lib.ListN.{get_or-eq_default}
-use borrow.Author.Rules.{rules}
 use Rattle.operations.proofs.byte_or_zero.Goals as goal
 
 pub returns : goal.returns

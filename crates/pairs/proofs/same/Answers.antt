@@ -1,9 +1,6 @@
-use mathlib.Core.Path.{◌≡◌, refl, sym, ap, ◌∙◌}
+use mathlib.Core.Path.{refl, sym, ap, ◌∙◌}
 use mathlib.Core.Bool.{Bool, and-true, and-false, ◌&&◌}
-use Prim.Native.Nat.{◌≤◌, ◌-◌}
 use native.Mathlib.Omega.{arith}
-use lib.ListN.{length, drop}
-use Rattle.pairs.specs.Pairs.{same_bytes}
 use Rattle.pairs.proofs.Equal.{same_longer, same_step, same_stop, same_end}
 use Rattle.pairs.proofs.same.Goals as goal
 

@@ -1,11 +1,9 @@
 -- The loop's invariant: the bytes are the same exactly when none before the one at hand differed and those from it on are.
-use mathlib.Core.Path.{◌≡◌, refl, sym, ap, ◌∙◌}
-use mathlib.Core.Bool.{Bool, and-true, and-false, ◌&&◌}
+use mathlib.Core.Path.{◌≡◌}
+use mathlib.Core.Bool.{◌&&◌}
 use Prim.Native.Nat.{◌≤◌, ◌-◌}
-use native.Mathlib.Omega.{arith}
 use lib.ListN.{length, drop}
 use Rattle.pairs.specs.Pairs.{same_bytes}
-use Rattle.pairs.proofs.Equal.{same_longer, same_step, same_stop, same_end}
 use Rattle.pairs.proofs.same.Given as goal
 
 abbrev pub invariant-loop-i : goal.invariant-loop-i

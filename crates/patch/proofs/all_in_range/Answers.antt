@@ -1,5 +1,5 @@
 -- The two passes together see every byte.
-use Rattle.std.proofs.Common.{◌≡◌, ℕ, arith, rules}
+use Rattle.std.proofs.Common.{◌≡◌, ℕ, arith}
 use borrow.Author.Tests.{not-false}
 use Rattle.ranges.proofs.Passes.{rows_join}
 use Rattle.fields.specs.Fields.{fields}

@@ -1,5 +1,5 @@
-use Rattle.std.proofs.Common.{◌≡◌, ◌-◌, ◌≤◌, sym, ◌∙◌, arith, rules, eqb-true}
-use Rattle.patch.proofs.Passes.{Whole, whole_more, all_whole}
+use Rattle.std.proofs.Common.{◌≡◌, sym, ◌∙◌, arith, eqb-true}
+use Rattle.patch.proofs.Passes.{whole_more, all_whole}
 use Rattle.patch.proofs.buses_whole.Goals as goal
 
 pub loop-j-init : goal.loop-j-init

@@ -1,6 +1,6 @@
 -- The flag is set at a source whose bus is half used: where it stays clear, no bus passed is.
-use Rattle.std.proofs.Common.{◌≡◌, ◌-◌, ◌≤◌, sym, ◌∙◌, arith, rules, eqb-true}
-use Rattle.patch.proofs.Passes.{Whole, whole_more, all_whole}
+use Rattle.std.proofs.Common.{◌≡◌, ◌-◌, ◌≤◌}
+use Rattle.patch.proofs.Passes.{Whole}
 use Rattle.patch.proofs.buses_whole.Given as goal
 
 abbrev pub invariant-loop-j : goal.invariant-loop-j

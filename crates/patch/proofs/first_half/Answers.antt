@@ -1,5 +1,4 @@
-use Rattle.std.proofs.Common.{◌≡◌, ◌-◌, ◌≤◌, sym, refl, ap, ◌∙◌, arith, rules}
-use Rattle.patch.specs.Patch.{first_half, half_from}
+use Rattle.std.proofs.Common.{sym, ap, ◌∙◌, arith, rules}
 use Rattle.ranges.specs.code.Found.{found_at}
 use Rattle.patch.proofs.Steps.{bus_whole, bus_half, buses_done}
 use Rattle.patch.proofs.first_half.Goals as goal

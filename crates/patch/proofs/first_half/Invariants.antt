@@ -1,8 +1,6 @@
 -- The loop's invariant: the lowest bus half used is that of the buses from the one at hand on.
-use Rattle.std.proofs.Common.{◌≡◌, ◌-◌, ◌≤◌, sym, refl, ap, ◌∙◌, arith, rules}
+use Rattle.std.proofs.Common.{◌≡◌, ◌-◌, ◌≤◌}
 use Rattle.patch.specs.Patch.{first_half, half_from}
-use Rattle.ranges.specs.code.Found.{found_at}
-use Rattle.patch.proofs.Steps.{bus_whole, bus_half, buses_done}
 use Rattle.patch.proofs.first_half.Given as goal
 
 abbrev pub invariant-loop-b : goal.invariant-loop-b

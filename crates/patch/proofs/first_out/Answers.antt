@@ -1,9 +1,7 @@
-use Rattle.std.proofs.Common.{◌≡◌, ◌-◌, ◌≤◌, drop, sym, refl, ◌∙◌, arith, to_z-of_z, rules}
+use Rattle.std.proofs.Common.{sym, ◌∙◌, arith, to_z-of_z}
 use borrow.Author.Tests.{not-true, not-false}
 use Rattle.fields.specs.Fields.{fields}
-use Rattle.ranges.specs.Ranges.{out_from}
 use Rattle.ranges.proofs.Steps.{byte_in, byte_out, bytes_done}
-use Rattle.patch.specs.Patch.{first_out}
 use Rattle.patch.proofs.first_out.Goals as goal
 
 pub returns-then-all_in_range : goal.returns-then-all_in_range

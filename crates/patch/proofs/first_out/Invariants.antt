@@ -1,10 +1,8 @@
 -- Where the pass says that every byte lies in its range, none is out of range. Else the loop's invariant: the lowest place out of range is
 -- that of the bytes from the one at hand on.
-use Rattle.std.proofs.Common.{◌≡◌, ◌-◌, ◌≤◌, drop, sym, refl, ◌∙◌, arith, to_z-of_z, rules}
-use borrow.Author.Tests.{not-true, not-false}
+use Rattle.std.proofs.Common.{◌≡◌, ◌-◌, ◌≤◌, drop}
 use Rattle.fields.specs.Fields.{fields}
 use Rattle.ranges.specs.Ranges.{out_from}
-use Rattle.ranges.proofs.Steps.{byte_in, byte_out, bytes_done}
 use Rattle.patch.specs.Patch.{first_out}
 use Rattle.patch.proofs.first_out.Given as goal
 

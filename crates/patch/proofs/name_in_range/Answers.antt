@@ -1,5 +1,4 @@
-use Rattle.std.proofs.Common.{◌≡◌, ◌-◌, ◌≤◌, arith, eqb-true}
-use Rattle.patch.specs.code.Passes.{InRange}
+use Rattle.std.proofs.Common.{◌≡◌, arith, eqb-true}
 use Rattle.fields.proofs.Rules.{name_accepts}
 use Rattle.ranges.proofs.Passes.{rows_more}
 use Rattle.fields.specs.Fields.{fields}

@@ -1,9 +1,6 @@
 -- The name's ranges are all 0..63, and the flag is set at a byte above 63: where it stays clear, each byte passed lies in its range.
-use Rattle.std.proofs.Common.{◌≡◌, ◌-◌, ◌≤◌, arith, eqb-true}
+use Rattle.std.proofs.Common.{◌≡◌, ◌-◌, ◌≤◌}
 use Rattle.patch.specs.code.Passes.{InRange}
-use Rattle.fields.proofs.Rules.{name_accepts}
-use Rattle.ranges.proofs.Passes.{rows_more}
-use Rattle.fields.specs.Fields.{fields}
 use Rattle.patch.proofs.name_in_range.Given as goal
 
 abbrev pub invariant-loop-k : goal.invariant-loop-k

@@ -1,7 +1,6 @@
-use Rattle.std.proofs.Common.{◌≡◌, ◌-◌, ◌≤◌, arith, rules, eqb-true}
+use Rattle.std.proofs.Common.{◌≡◌, arith, eqb-true}
 use Rattle.fields.specs.Fields.{fields}
 use Rattle.fields.proofs.Widths.{column}
-use Rattle.patch.specs.code.Passes.{InRange}
 use Rattle.ranges.proofs.Passes.{rows_join}
 use Rattle.fields.specs.Fields.{fields}
 use Rattle.patch.proofs.Passes.{columns_more}

@@ -1,13 +1,8 @@
 -- The flag is set at a byte that is further above its least than its width: where it stays clear, each byte passed lies in its range. The
 -- columns in code are those of the table, number for number.
 -- The last sixteen, from 118 on.
-use Rattle.std.proofs.Common.{◌≡◌, ◌-◌, ◌≤◌, arith, rules, eqb-true}
-use Rattle.fields.specs.Fields.{fields}
-use Rattle.fields.proofs.Widths.{column}
+use Rattle.std.proofs.Common.{◌≡◌, ◌-◌, ◌≤◌}
 use Rattle.patch.specs.code.Passes.{InRange}
-use Rattle.ranges.proofs.Passes.{rows_join}
-use Rattle.fields.specs.Fields.{fields}
-use Rattle.patch.proofs.Passes.{columns_more}
 use Rattle.patch.proofs.rest_in_range.Given as goal
 
 abbrev pub invariant-loop-i : goal.invariant-loop-i

@@ -1,5 +1,5 @@
 -- The length first, then what the fields are answered.
-use Rattle.std.proofs.Common.{rules, eq-eqb, ne_eqb}
+use Rattle.std.proofs.Common.{eq-eqb, ne_eqb}
 use Rattle.patch.proofs.test.Goals as goal
 
 pub returns-then-p-ne-SIZE : goal.returns-then-p-ne-SIZE

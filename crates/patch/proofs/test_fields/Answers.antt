@@ -1,6 +1,6 @@
 -- The two searches in order: the first that finds something gives the answer.
 -- Where the first search finds nothing, the second answers.
-use Rattle.std.proofs.Common.{◌≡◌, ℕ, List, [], ◌∷◌, sym, ◌∙◌, rules}
+use Rattle.std.proofs.Common.{◌≡◌, [], ◌∷◌, sym, ◌∙◌}
 use Rattle.answers.specs.Table.{row_at}
 use Rattle.answers.specs.Effect.{tested}
 use Rattle.ranges.proofs.Found.{found_some, found_none, told_some, told_none}
@@ -9,8 +9,8 @@ use Rattle.patch.proofs.Tests.{fields_out, fields_in}
 use Rattle.patch.proofs.test_fields.Goals.{Else-out-ne-DONE}
 use Rattle.patch.proofs.test_fields.Goals as goal
 
-then-half : (e : Else-out-ne-DONE) → tested (field_rows e.args.p.now) ≡ tested (row_at 12 (first_half e.args.p.now) ∷ [])
-then-half e =
+then_half : (e : Else-out-ne-DONE) → tested (field_rows e.args.p.now) ≡ tested (row_at 12 (first_half e.args.p.now) ∷ [])
+then_half e =
     fields_in e.args.p.now (told_none (first_out e.args.p.now) e.first_out-out.result e.first_out-out.ensures e.if-out-ne-DONE.false)
 
 pub returns-then-out-ne-DONE : goal.returns-then-out-ne-DONE
@@ -23,9 +23,9 @@ pub returns-in-At : goal.returns-in-At
 returns-in-At c =
     let p = c.args.p.now in
     let b = found_some (first_half p) c.in-At.b (sym c.in-At.is ∙ c.first_half-half.ensures) in
-    rw (c.refused.ensures, then-half (goal.at.returns-in-At c).Else-out-ne-DONE, b)
+    rw (c.refused.ensures, then_half (goal.at.returns-in-At c).Else-out-ne-DONE, b)
 
 pub returns : goal.returns
 returns c =
     let whole = found_none (first_half c.args.p.now) (sym c.in_default.is ∙ c.first_half-half.ensures) in
-    rw (c.done.ensures, then-half (goal.at.returns c).Else-out-ne-DONE, whole)
+    rw (c.done.ensures, then_half (goal.at.returns c).Else-out-ne-DONE, whole)

@@ -1,5 +1,5 @@
 -- The lookup, then the patch's tests; done, the value of the byte at the parameter's place.
-use Rattle.std.proofs.Common.{◌≡◌, ℕ, List, sym, ◌∙◌, arith, to_z-of_z, rules}
+use Rattle.std.proofs.Common.{◌≡◌, sym, ◌∙◌, arith, to_z-of_z}
 use mathlib.Core.Option.{some}
 use Rattle.answers.specs.promises.Decides.{Silent}
 use Rattle.answers.proofs.Effects.{passed}

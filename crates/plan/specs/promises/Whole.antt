@@ -5,7 +5,7 @@ use Rattle.std.proofs.Math.Option.{some}
 use Rattle.answers.specs.Table.{outcome, done}
 use Rattle.answers.specs.Effect.{tested}
 use Rattle.streams.specs.Stream.{Report, walk}
-use Rattle.messages.specs.declared.kinds.Kind.TheVariants.{Dump as ofDump}
+use Rattle.messages.specs.declared.kinds.Kind.TheVariants.{Dump as of_dump}
 use Rattle.messages.specs.Kinds.{single_patch, edit_buffer}
 use Rattle.messages.specs.Judge.{judge}
 use Rattle.messages.specs.Layout.{message}
@@ -37,8 +37,8 @@ pub record Whole : Type 0 where
   pub stands : (s old new : List ℕ) (r : Written) → room_most ≤ length old → Says (said_of s) old new r
       → let w = said_of s in (take r.out new ≡ w.out) × (take (r.end - r.out) (drop r.out new) ≡ w.err)
   -- a dump as our writer writes it is such a file
-  pub numbered : (n : ℕ) (p : List ℕ) → Good p → n ≤ 99 → Holds (message (ofDump single_patch) (n ∷ []) p) p
-  pub to_edit_buffer : (p : List ℕ) → Good p → Holds (message (ofDump edit_buffer) [] p) p
+  pub numbered : (n : ℕ) (p : List ℕ) → Good p → n ≤ 99 → Holds (message (of_dump single_patch) (n ∷ []) p) p
+  pub to_edit_buffer : (p : List ℕ) → Good p → Holds (message (of_dump edit_buffer) [] p) p
   -- and such a file has an accepted patch
   pub one_patch : (s : List ℕ) → found_in s ≡ One → OnePatch s
   pub names_alone : (s t : List ℕ) → found_in s ≡ One → found_in t ≡ One

@@ -1,11 +1,9 @@
 use mathlib.Core.Path.{◌≡◌, refl, sym, ap, ◌∙◌}
-use Prim.Native.Nat.{ℕ, ◌+◌, ◌-◌}
+use Prim.Native.Nat.{ℕ}
 use native.Mathlib.Omega.{arith}
 use lib.ListN.{length}
-use borrow.Author.Rules.{rules}
 use Rattle.edit_lists.specs.Plan.{width_of}
-use Rattle.edit_lists.specs.code.Left.{edits_left}
-use Rattle.edit_lists.proofs.Left.{Stands, stands_start, Step, step, edits_same, edits_longer, edits_none, edits_most}
+use Rattle.edit_lists.proofs.Left.{stands_start, Step, step, edits_same, edits_longer, edits_none, edits_most}
 use Rattle.planner.proofs.list_size.Goals.{In-loop-k}
 use Rattle.planner.proofs.list_size.Goals as goal
 
@@ -15,7 +13,7 @@ at i w e = let l = i.loop-k in step _ _ l.k w l.invariant.0 i.loop-k-test.true e
 
 pub same_at-requires : goal.same_at-requires
 same_at-requires c =
-     (c.requires.0, c.requires.1, (at c _ refl).part)
+    (c.requires.0, c.requires.1, (at c _ refl).part)
 
 pub loop-k-preserved-then-same_at : goal.loop-k-preserved-then-same_at
 loop-k-preserved-then-same_at c =

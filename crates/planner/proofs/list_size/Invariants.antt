@@ -1,13 +1,10 @@
 -- The loop's invariant: the list is as long as what is counted and what is left of it from the part at hand on. So the count is never more than
 -- the list is long.
-use mathlib.Core.Path.{◌≡◌, refl, sym, ap, ◌∙◌}
-use Prim.Native.Nat.{ℕ, ◌+◌, ◌-◌}
-use native.Mathlib.Omega.{arith}
+use mathlib.Core.Path.{◌≡◌}
+use Prim.Native.Nat.{◌+◌, ◌-◌}
 use lib.ListN.{length}
-use borrow.Author.Rules.{rules}
-use Rattle.edit_lists.specs.Plan.{width_of}
 use Rattle.edit_lists.specs.code.Left.{edits_left}
-use Rattle.edit_lists.proofs.Left.{Stands, stands_start, Step, step, edits_same, edits_longer, edits_none, edits_most}
+use Rattle.edit_lists.proofs.Left.{Stands}
 use Rattle.planner.proofs.list_size.Given as goal
 
 abbrev pub invariant-loop-k : goal.invariant-loop-k

@@ -4,7 +4,6 @@ use mathlib.Core.List.{List}
 use Prim.Native.Nat.{ℕ}
 use native.Mathlib.Omega.{arith}
 use lib.ListN.{length}
-use borrow.Author.Rules.{rules}
 use Rattle.answers.specs.Effect.{written}
 use Rattle.answers.specs.promises.Decides.{Silent}
 use Rattle.answers.proofs.Effects.{passed, gives_stopped, gives_short, gives_written}
@@ -22,12 +21,12 @@ unfolding planning
 from_start a b out = rw (edits_start a b)
 
 silent : (e : Else-pair-ne-DONE) →
-     Silent (pair_rows e.args.a.now e.args.b.now)
+    Silent (pair_rows e.args.a.now e.args.b.now)
 silent e =
     passed (pair_rows e.args.a.now e.args.b.now) e.test_pair-pair.result (pair_refusals e.args.a.now e.args.b.now) e.test_pair-pair.ensures e.if-pair-ne-DONE.false
 
 sizes : (e : Else-pair-ne-DONE) →
-     (length e.args.a.now ≡ 134) × (length e.args.b.now ≡ 134)
+    (length e.args.a.now ≡ 134) × (length e.args.b.now ≡ 134)
 sizes e =
     let p = silent_pair e.args.a.now e.args.b.now (silent e) in
     (patch_length e.args.a.now p.from, patch_length e.args.b.now p.to)

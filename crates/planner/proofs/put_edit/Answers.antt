@@ -2,7 +2,6 @@
 use mathlib.Core.Path.{◌≡◌, sym}
 use Prim.Native.Nat.{◌+◌, ◌<◌}
 use native.Mathlib.Omega.{arith}
-use borrow.Author.Rules.{rules}
 use borrow.Author.Tests.{lt-ltb, le-ltb}
 use Rattle.patch.specs.Patch.{source_at, amount_at, destination_at}
 use Rattle.edit_lists.specs.Plan.{bus_at}
@@ -26,7 +25,7 @@ returns-in_default c =
 
 bus : (e : Else-k-lt-SOURCE_AT) → let k = e.args.k in (k ≡ source_at (bus_at k)) × (bus_at k < 10)
 bus e =
-     bus_begins e.args.k e.requires.0 e.if-k-lt-SOURCE_AT.false
+    bus_begins e.args.k e.requires.0 e.if-k-lt-SOURCE_AT.false
 
 pub put_matrix-requires : goal.put_matrix-requires
 put_matrix-requires c =

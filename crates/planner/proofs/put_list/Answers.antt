@@ -1,17 +1,14 @@
-use mathlib.Core.Path.{◌≡◌, refl, sym, ap, ◌∙◌}
-use mathlib.Core.List.{List, [], ◌++◌, append_assoc, append-nil}
+use mathlib.Core.Path.{◌≡◌, refl, sym, ◌∙◌}
+use mathlib.Core.List.{[], append-nil}
 use Prim.Native.Nat.{ℕ, ◌+◌, ◌-◌, ◌≤◌}
 use native.Mathlib.Omega.{arith}
-use lib.ListN.{length, take, drop, length-append, length-take, length-drop}
-use borrow.Author.Rules.{rules}
-use borrow.Rule.Slice.PartMut.{put_mid, same_len_mid}
-use Rattle.answers.specs.Effect.{at_start}
-use Rattle.answers.proofs.Lists.{then_part}
+use lib.ListN.{length, length-take, length-drop}
+use borrow.Rule.Slice.PartMut.{same_len_mid}
 use Rattle.edit_lists.specs.Lists.{message_for}
 use Rattle.edit_lists.specs.Plan.{width_of, reaching}
 use Rattle.edit_lists.specs.code.Left.{edits_left, length_at}
-use Rattle.edit_lists.proofs.Left.{Stands, stands_start, message_length, Step, step, edits_same, edits_other, edits_longer, edits_none}
-use Rattle.planner.proofs.Writing.{Writing, counted, one_more}
+use Rattle.edit_lists.proofs.Left.{stands_start, message_length, Step, step, edits_same, edits_other, edits_longer, edits_none}
+use Rattle.planner.proofs.Writing.{counted, one_more}
 use Rattle.planner.proofs.put_list.Goals.{Else-same_at, In-loop-k}
 use Rattle.planner.proofs.put_list.Goals as goal
 
@@ -22,7 +19,7 @@ at i w e = let l = i.loop-k in step _ _ l.k w l.invariant.0 i.loop-k-test.true e
 
 pub same_at-requires : goal.same_at-requires
 same_at-requires c =
-     (c.requires.0, c.requires.1, (at c _ refl).part)
+    (c.requires.0, c.requires.1, (at c _ refl).part)
 
 pub loop-k-preserved-then-same_at : goal.loop-k-preserved-then-same_at
 loop-k-preserved-then-same_at c =

@@ -3,7 +3,6 @@ use mathlib.Core.Path.{refl}
 use mathlib.Core.List.{[]}
 use native.Mathlib.Omega.{arith}
 use lib.ListN.{length-set}
-use borrow.Author.Rules.{rules}
 use Rattle.answers.proofs.Lists.{puts_after}
 use Rattle.edit_lists.specs.Lists.{remote, message_for}
 use Rattle.planner.proofs.put_remote.Goals as goal

@@ -1,5 +1,5 @@
-use Rattle.std.proofs.Common.{◌≡◌, ◌-◌, ◌≤◌, length, sym, refl, ◌∙◌, arith, rules, eq-eqb, ne_eqb}
-use Rattle.ranges.proofs.Passes.{Seen, clear, set, seen_in, seen_all}
+use Rattle.std.proofs.Common.{◌≡◌, length, sym, refl, ◌∙◌, arith, eq-eqb, ne_eqb}
+use Rattle.ranges.proofs.Passes.{clear, set, seen_in, seen_all}
 use Rattle.ranges.proofs.all_in.Goals as goal
 
 pub returns-then-bytes-count : goal.returns-then-bytes-count

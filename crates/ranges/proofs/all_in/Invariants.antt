@@ -1,6 +1,6 @@
 -- The flag is set at a byte out of range: at the end it tells whether there is one.
-use Rattle.std.proofs.Common.{◌≡◌, ◌-◌, ◌≤◌, length, sym, refl, ◌∙◌, arith, rules, eq-eqb, ne_eqb}
-use Rattle.ranges.proofs.Passes.{Seen, clear, set, seen_in, seen_all}
+use Rattle.std.proofs.Common.{◌-◌, ◌≤◌, length}
+use Rattle.ranges.proofs.Passes.{Seen}
 use Rattle.ranges.proofs.all_in.Given as goal
 
 abbrev pub invariant-loop-k : goal.invariant-loop-k

@@ -1,6 +1,5 @@
-use Rattle.std.proofs.Common.{◌≡◌, ◌-◌, ◌≤◌, length, drop, sym, refl, ◌∙◌, arith, to_z-of_z, rules}
+use Rattle.std.proofs.Common.{sym, ◌∙◌, arith, to_z-of_z}
 use borrow.Author.Tests.{not-true, not-false}
-use Rattle.ranges.specs.Ranges.{out_from}
 use Rattle.ranges.proofs.Steps.{byte_in, byte_out, bytes_done}
 use Rattle.ranges.proofs.first_out.Goals as goal
 

@@ -1,8 +1,6 @@
 -- The loop's invariant: the lowest place out of range is that of the bytes from the one at hand on.
-use Rattle.std.proofs.Common.{◌≡◌, ◌-◌, ◌≤◌, length, drop, sym, refl, ◌∙◌, arith, to_z-of_z, rules}
-use borrow.Author.Tests.{not-true, not-false}
+use Rattle.std.proofs.Common.{◌≡◌, ◌-◌, ◌≤◌, length, drop}
 use Rattle.ranges.specs.Ranges.{out_from}
-use Rattle.ranges.proofs.Steps.{byte_in, byte_out, bytes_done}
 use Rattle.ranges.proofs.first_out.Given as goal
 
 abbrev pub invariant-loop-k : goal.invariant-loop-k

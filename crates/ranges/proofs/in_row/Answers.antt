@@ -1,5 +1,4 @@
 -- The bounds are those of the row.
-use Rattle.std.proofs.Common.{rules}
 use Rattle.ranges.specs.Ranges.{in_row}
 use Rattle.ranges.proofs.in_row.Goals as goal
 

@@ -1,5 +1,5 @@
 -- What is left of the byte and of the greatest above the least, compared.
-use Rattle.std.proofs.Common.{sym, arith, rules}
+use Rattle.std.proofs.Common.{sym, arith}
 use Rattle.ranges.proofs.Between.{between_width}
 use Rattle.ranges.proofs.lies_between.Goals as goal
 

@@ -1,5 +1,5 @@
 -- The bounds are those of the row; past the table both are 0.
-use Rattle.std.proofs.Common.{[], refl, rules}
+use Rattle.std.proofs.Common.{[], refl}
 use lib.ListN.{get_or-eq_default}
 use Rattle.ranges.proofs.row_of.Goals as goal
 

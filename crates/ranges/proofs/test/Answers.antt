@@ -1,5 +1,5 @@
 -- The count of the bytes, then the lowest place out of range, if there is a table.
-use Rattle.std.proofs.Common.{◌∙◌, rules, ne_eqb}
+use Rattle.std.proofs.Common.{◌∙◌, ne_eqb}
 use Rattle.ranges.proofs.Found.{no_table, by_table}
 use Rattle.ranges.proofs.test.Goals as goal
 
@@ -16,6 +16,6 @@ returns-then-bytes-count-2 c = rw (ne_eqb _ _ c.if-bytes-count-2.true) c.refused
 
 pub returns : goal.returns
 returns c =
-    let some-table = c.before.before in
-    let a = some-table.args in
-    c.first_out-out.ensures ∙ by_table a.count a.bytes.now c.if-bytes-count-2.false a.table.now some-table.if-table-eq0.false
+    let some_table = c.before.before in
+    let a = some_table.args in
+    c.first_out-out.ensures ∙ by_table a.count a.bytes.now c.if-bytes-count-2.false a.table.now some_table.if-table-eq0.false

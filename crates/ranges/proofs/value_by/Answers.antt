@@ -1,5 +1,5 @@
 -- With its sign where the field is signed; else the byte itself.
-use Rattle.std.proofs.Common.{arith, to_z-of_z, w16, rules}
+use Rattle.std.proofs.Common.{arith, to_z-of_z, w16}
 use mir.Facts.{to_z_pos}
 use Rattle.ranges.specs.Values.{value_by}
 use Rattle.ranges.proofs.value_by.Goals as goal

@@ -1,5 +1,5 @@
 -- The bounds are those of the row.
-use Rattle.std.proofs.Common.{to_z-of_z, rules}
+use Rattle.std.proofs.Common.{to_z-of_z}
 use Rattle.ranges.proofs.value_in.Goals as goal
 
 pub returns : goal.returns

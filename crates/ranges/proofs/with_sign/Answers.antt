@@ -1,5 +1,5 @@
 -- A byte below 128 is itself, another one is 256 less, which is below zero.
-use Rattle.std.proofs.Common.{◌-◌, negsuc, ap, ◌∙◌, arith, to_z-of_z, w16, rules, le-ltb, lt-ltb}
+use Rattle.std.proofs.Common.{negsuc, ap, ◌∙◌, arith, to_z-of_z, w16, le-ltb, lt-ltb}
 use mir.Facts.{to_z_pos}
 use Rattle.answers.proofs.Signed.{less}
 use Rattle.ranges.specs.Values.{value_of}

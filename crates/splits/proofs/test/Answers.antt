@@ -1,6 +1,5 @@
 -- `test` is done where the pass over a split's rows sees none out of range, and else leaves it to them.
 use mathlib.Core.Path.{sym, ◌∙◌}
-use borrow.Author.Rules.{rules}
 use Rattle.ranges.proofs.Found.{all_pass}
 use Rattle.splits.specs.Splits.{split_fields}
 use Rattle.splits.proofs.test.Goals as goal

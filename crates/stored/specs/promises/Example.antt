@@ -1,5 +1,5 @@
 -- Document 02 (ii): files of some units, computed.
-use Rattle.std.specs.Prelude.{◌≡◌, List, [], ◌∷◌, replicate}
+use Rattle.std.specs.Prelude.{◌≡◌, [], ◌∷◌, replicate}
 use Rattle.answers.specs.Table.{outcome}
 use Rattle.answers.specs.Effect.{no_place}
 use Rattle.stored.specs.Records.{header, new_file}

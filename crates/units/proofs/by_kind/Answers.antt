@@ -1,5 +1,4 @@
 -- `by_kind` leaves the bytes of a short message to `by_operands`; a dump changes nothing.
-use borrow.Author.Rules.{rules}
 use Rattle.units.proofs.by_kind.Goals as goal
 
 pub returns-in-Dump : goal.returns-in-Dump

@@ -1,5 +1,4 @@
 -- `by_operands` leaves an operation to `obey`; an edit changes nothing.
-use borrow.Author.Rules.{rules}
 use Rattle.units.proofs.by_operands.Goals as goal
 
 pub returns-in-Edit : goal.returns-in-Edit

@@ -1,6 +1,5 @@
 -- `follow` leaves a message that is accepted to its kind; one that is refused, and none, changes nothing.
 use mathlib.Core.Path.{◌∙◌}
-use borrow.Author.Rules.{rules}
 use Rattle.units.proofs.Steps.{quiet_step, kind_step}
 use Rattle.units.proofs.follow.Goals as goal
 

@@ -1,7 +1,6 @@
 -- `join_group`: the last unit sends nothing on; any other the message, with the ID raised by one.
 use native.Mathlib.Numerals.{add-one}
 use native.Mathlib.Omega.{arith}
-use borrow.Author.Rules.{rules}
 use borrow.Author.Tests.{lt-ltb, le-ltb}
 use Rattle.units.proofs.join_group.Goals as goal
 

@@ -1,5 +1,4 @@
 -- `obey` leaves each operation to its own function.
-use borrow.Author.Rules.{rules}
 use Rattle.units.proofs.obey.Goals as goal
 
 pub returns-in-Request : goal.returns-in-Request

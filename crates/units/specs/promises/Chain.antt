@@ -1,7 +1,7 @@
 -- Units in a chain, each fed what the one before it sends on (02 (vii)).
 use Rattle.std.specs.Prelude.{◌≡◌, Bool, true, cond, List, [], ◌∷◌, ℕ, suc, ◌+◌, ◌≤◌, eqb, ltb, length}
 use Rattle.answers.specs.Table.{answer_of}
-use Rattle.messages.specs.declared.kinds.Kind.TheVariants.{Short as ofShort}
+use Rattle.messages.specs.declared.kinds.Kind.TheVariants.{Short as of_short}
 use Rattle.messages.specs.Kinds.{store_edit_buffer}
 use Rattle.messages.specs.Judge.{judge}
 use Rattle.messages.specs.Layout.{message}
@@ -30,7 +30,7 @@ Each P k [] = Prim.Unit {0}
 Each P k (u ∷ us) = P k u × Each P (suc k) us
 
 abbrev pub store_message : ℕ → ℕ → ℕ → List ℕ
-store_message number bank id = message (ofShort store_edit_buffer) (number ∷ bank ∷ id ∷ []) []
+store_message number bank id = message (of_short store_edit_buffer) (number ∷ bank ∷ id ∷ []) []
 
 -- Whether a unit takes a store message as meant for it.
 abbrev pub stores : ℕ → ℕ → ℕ → Unit → Bool

@@ -1,16 +1,11 @@
 -- Dump after dump is written, each into the part that starts at its place. The invariant: the output is the dumps of the patches
 -- passed, then its old bytes.
 -- The patch numbered k.
-use mathlib.Core.Path.{◌≡◌, refl, ◌∙◌}
-use mathlib.Core.List.{List, ◌++◌}
-use Prim.Native.Nat.{ℕ, ◌+◌, ◌-◌, ◌*◌, ◌/◌, ◌≤◌}
-use native.Mathlib.Omega.{arith}
-use lib.ListN.{length, take, drop}
-use borrow.Rule.Slice.PartMut.{put_mid, same_len_mid}
-use Rattle.answers.proofs.Lists.{then_part}
-use Rattle.messages.specs.Layout.{dump}
+use mathlib.Core.Path.{◌≡◌}
+use mathlib.Core.List.{◌++◌}
+use Prim.Native.Nat.{◌-◌, ◌*◌, ◌≤◌}
+use lib.ListN.{length, drop}
 use Rattle.writing.specs.Writing.{bank_from}
-use Rattle.writing.proofs.Laws.{length_patch, length_patch_dump, length_bank, bank_more}
 use Rattle.writing.proofs.put_bank.Given as goal
 
 abbrev pub invariant-loop-k : goal.invariant-loop-k

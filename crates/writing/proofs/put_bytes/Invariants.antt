@@ -1,12 +1,7 @@
 -- `put_bytes` copies byte after byte, each behind those passed.
-use mathlib.Core.Path.{◌≡◌, refl, ◌∙◌}
-use mathlib.Core.List.{[], ◌∷◌, ◌++◌}
-use Prim.Native.Nat.{◌+◌, ◌-◌}
-use native.Mathlib.Omega.{arith}
-use native.Mathlib.Numerals.{add-one}
-use lib.ListN.{length, get_or, take}
-use lib.Seq.{take-suc, take-length, length-take-le}
-use Rattle.answers.proofs.Copied.{Copied, copied_next}
+use Prim.Native.Nat.{◌-◌}
+use lib.ListN.{length, take}
+use Rattle.answers.proofs.Copied.{Copied}
 use Rattle.writing.proofs.put_bytes.Given as goal
 
 abbrev pub invariant-loop-i : goal.invariant-loop-i

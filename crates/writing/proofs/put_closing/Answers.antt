@@ -1,7 +1,6 @@
 -- Two bytes are written one after the other from the start of the output; the first is the checksum.
 use mathlib.Core.Path.{refl, ◌∙◌}
 use mathlib.Core.List.{[], ◌∷◌}
-use borrow.Author.Rules.{rules}
 use Rattle.answers.proofs.Lists.{puts_after}
 use Rattle.writing.proofs.put_closing.Goals as goal
 

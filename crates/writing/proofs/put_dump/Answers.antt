@@ -5,7 +5,6 @@ use mathlib.Core.List.{List, [], ◌∷◌, ◌++◌}
 use Prim.Native.Nat.{ℕ, ◌+◌, ◌-◌, ◌*◌, ◌≤◌}
 use native.Mathlib.Omega.{arith}
 use lib.ListN.{length, take, drop, set, length-append, length-take, length-drop, length-set}
-use borrow.Author.Rules.{rules}
 use borrow.Rule.Slice.PartMut.{put_mid, same_len_mid}
 use Rattle.answers.specs.declared.Outcome.{Outcome}
 use Rattle.answers.specs.Effect.{Effect}
@@ -22,34 +21,34 @@ opening u = 0xF0 ∷ 0x10 ∷ 0x06 ∷ u.args.opcode ∷ []
 abbrev head : After-unpack_into → List ℕ
 head u = opening u ++ (u.args.number ∷ [])
 
-abbrev after-number : After-unpack_into → List ℕ
-after-number u = set u.put_opening.new.out 4 u.args.number
+abbrev after_number : After-unpack_into → List ℕ
+after_number u = set u.put_opening.new.out 4 u.args.number
 
-abbrev after-nibbles : After-unpack_into → List ℕ
-after-nibbles u = let xs = after-number u in put_mid 5 (length xs - 5) xs u.unpack_into.new.out
+abbrev after_nibbles : After-unpack_into → List ℕ
+after_nibbles u = let xs = after_number u in put_mid 5 (length xs - 5) xs u.unpack_into.new.out
 
 -- The opening and the number are written.
 
-numbered : (u : After-unpack_into) → after-number u ≡ head u ++ drop 5 u.args.out.now
+numbered : (u : After-unpack_into) → after_number u ≡ head u ++ drop 5 u.args.out.now
 numbered u =
     ap (λ (l : List ℕ). set l 4 u.args.number) u.put_opening.ensures
     ∙ put_next (opening u) u.args.out.now 4 u.args.number refl (omega (arith, u.requires))
 
-number-long : (u : After-unpack_into) → length (after-number u) ≡ length u.args.out.now
-number-long u = let put = u.put_opening in length-set put.new.out 4 u.args.number ∙ put.auto.out
+number_long : (u : After-unpack_into) → length (after_number u) ≡ length u.args.out.now
+number_long u = let put = u.put_opening in length-set put.new.out 4 u.args.number ∙ put.auto.out
 
-nibbles-long : (u : After-unpack_into) → length (after-nibbles u) ≡ length u.args.out.now
-nibbles-long u =
-    let xs = after-number u in
-    same_len_mid 5 (length xs - 5) xs u.unpack_into.new.out u.unpack_into.auto.out ∙ number-long u
+nibbles_long : (u : After-unpack_into) → length (after_nibbles u) ≡ length u.args.out.now
+nibbles_long u =
+    let xs = after_number u in
+    same_len_mid 5 (length xs - 5) xs u.unpack_into.new.out u.unpack_into.auto.out ∙ number_long u
 
 -- Then the nibbles.
 
-unpacked : (u : After-unpack_into) → after-nibbles u ≡ (head u ++ nibbles u.args.packed.now) ++ drop (5 + 2 * length u.args.packed.now) u.args.out.now
+unpacked : (u : After-unpack_into) → after_nibbles u ≡ (head u ++ nibbles u.args.packed.now) ++ drop (5 + 2 * length u.args.packed.now) u.args.out.now
 unpacked u =
     let p = u.args.packed.now in
-    let xs = after-number u in
-    let long = number-long u in
+    let xs = after_number u in
+    let long = number_long u in
     let room : 2 * length p ≤ length (take (length xs - 5) (drop 5 xs)) = simp (length-take, length-drop) (omega (arith, long, u.requires)) in
     let written = u.unpack_into.ensures.lent ∙ ap (λ (e : Effect Outcome). e.lent) (unpacking_done p (take (length xs - 5) (drop 5 xs)) room) in
     then_part (head u) (nibbles p) u.args.out.now xs u.unpack_into.new.out 5 (2 * length p) refl (length_nibbles p) (omega (arith, u.requires)) (numbered u)
@@ -63,29 +62,29 @@ returns c =
     let end = 5 + 2 * length p in
     let la : length (head s ++ nibbles p) ≡ end = omega (arith, length-append (head s) (nibbles p), length_nibbles p) in
     let more : end + 2 ≡ 2 * length p + 7 = omega arith in
-    then_part (head s ++ nibbles p) (sum p ∷ 0xF7 ∷ []) c.args.out.now (after-nibbles s) closing.new.out end 2 la refl (omega (arith, c.requires)) (unpacked s)
+    then_part (head s ++ nibbles p) (sum p ∷ 0xF7 ∷ []) c.args.out.now (after_nibbles s) closing.new.out end 2 la refl (omega (arith, c.requires)) (unpacked s)
     closing.ensures
     ∙ rw (length_dump, dump_parts, more)
 
 pub slice_bounds-put_closing-count : goal.slice_bounds-put_closing-count
-slice_bounds-put_closing-count c = omega (arith, nibbles-long (goal.at.slice_bounds-put_closing-count c).After-unpack_into, c.requires)
+slice_bounds-put_closing-count c = omega (arith, nibbles_long (goal.at.slice_bounds-put_closing-count c).After-unpack_into, c.requires)
 
 pub slice_bounds-put_closing-start : goal.slice_bounds-put_closing-start
-slice_bounds-put_closing-start c = omega (arith, nibbles-long (goal.at.slice_bounds-put_closing-start c).After-unpack_into, c.requires)
+slice_bounds-put_closing-start c = omega (arith, nibbles_long (goal.at.slice_bounds-put_closing-start c).After-unpack_into, c.requires)
 
 pub put_closing-requires : goal.put_closing-requires
 put_closing-requires c =
     let s = (goal.at.put_closing-requires c).After-unpack_into in
     let end = 5 + 2 * length c.args.packed.now in
-    let xs = after-nibbles s in
-    omega (arith, ap length (to_end end xs), length-drop end xs, nibbles-long s, c.requires)
+    let xs = after_nibbles s in
+    omega (arith, ap length (to_end end xs), length-drop end xs, nibbles_long s, c.requires)
 
 pub shape_of-out : goal.shape_of-out
 shape_of-out c =
     let s = (goal.at.shape_of-out c).After-unpack_into in
     let end = 5 + 2 * length c.args.packed.now in
-    let xs = after-nibbles s in
-    same_len_mid end (length xs - end) xs c.put_closing.new.out c.put_closing.auto.out ∙ nibbles-long s
+    let xs = after_nibbles s in
+    same_len_mid end (length xs - end) xs c.put_closing.new.out c.put_closing.auto.out ∙ nibbles_long s
 
 pub slice_bounds-unpack_into-count : goal.slice_bounds-unpack_into-count
 slice_bounds-unpack_into-count c = simp length-set (omega arith)

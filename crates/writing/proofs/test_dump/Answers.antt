@@ -1,7 +1,6 @@
 -- The length, the byte behind the opcode, then the packed bytes: each return is what the rows are answered.
 use mathlib.Core.Path.{◌≡◌, sym, ◌∙◌}
 use lib.ListN.{length}
-use borrow.Author.Rules.{rules}
 use borrow.Author.Tests.{eq-eqb, ne_eqb}
 use Rattle.messages.specs.Kinds.{size_of}
 use Rattle.writing.proofs.test_dump.Goals.{After-wrong_number}

@@ -4,13 +4,11 @@ use mathlib.Core.List.{List}
 use Prim.Native.Nat.{ℕ}
 use native.Mathlib.Omega.{arith}
 use lib.ListN.{length}
-use borrow.Author.Rules.{rules}
 use Rattle.answers.specs.Table.{Row}
 use Rattle.answers.proofs.Rows.{row_equal}
 use Rattle.answers.proofs.Effects.{passed, gives_stopped, gives_short, gives_written}
 use Rattle.answers.specs.promises.Decides.{Silent}
-use Rattle.messages.specs.declared.kinds.Dump.{Dump}
-use Rattle.messages.specs.declared.kinds.Kind.TheVariants.{Dump as ofDump}
+use Rattle.messages.specs.declared.kinds.Kind.TheVariants.{Dump as of_dump}
 use Rattle.messages.specs.Kinds.{size_of}
 use Rattle.messages.specs.Layout.{dump, dump_given}
 use Rattle.messages.proofs.Filed.{is_sized}
@@ -33,7 +31,7 @@ silent t z = passed (rows t) t.test_dump-tested.result (dump_given_refusals t.ar
 size : (t : After-test_dump-tested) → t.test_dump-tested.result.answer ≡ 0 → length (bytes t) ≡ t.args.kind.length
 size t z =
     let whole = row_equal 7 (length t.args.p.now) (size_of t.args.kind.packed) (silent t z).0 in
-    omega (arith, length_dump t.args.kind.opcode t.args.number t.args.p.now, (is_sized (ofDump t.args.kind) t.requires).0)
+    omega (arith, length_dump t.args.kind.opcode t.args.number t.args.p.now, (is_sized (of_dump t.args.kind) t.requires).0)
 
 pub returns-then-tested-ne-DONE : goal.returns-then-tested-ne-DONE
 returns-then-tested-ne-DONE c =

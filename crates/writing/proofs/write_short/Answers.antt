@@ -4,15 +4,13 @@ use mathlib.Core.List.{List, [], ◌∷◌, ◌++◌}
 use Prim.Native.Nat.{ℕ, ◌+◌, ◌-◌}
 use native.Mathlib.Omega.{arith}
 use lib.ListN.{length, length-append, length-drop, length-set}
-use borrow.Author.Rules.{rules}
 use borrow.Rule.Slice.PartMut.{put_mid, same_len_mid}
 use Rattle.answers.specs.Table.{Row}
 use Rattle.answers.proofs.Lists.{to_end, put_next, then_part}
 use Rattle.answers.proofs.Rows.{row_equal}
 use Rattle.answers.proofs.Effects.{passed, gives_stopped, gives_short, gives_written}
 use Rattle.answers.specs.promises.Decides.{Silent}
-use Rattle.messages.specs.declared.kinds.Kind.TheVariants.{Short as ofShort}
-use Rattle.messages.specs.declared.kinds.Short.{Short}
+use Rattle.messages.specs.declared.kinds.Kind.TheVariants.{Short as of_short}
 use Rattle.messages.specs.Kinds.{count_of}
 use Rattle.messages.specs.Judge.{lent_operand_rows}
 use Rattle.messages.specs.Layout.{message_of}
@@ -31,14 +29,14 @@ abbrev opening : After-test_operands-tested → List ℕ
 opening t = 0xF0 ∷ 0x10 ∷ 0x06 ∷ t.args.kind.opcode ∷ []
 
 silent : (t : After-test_operands-tested) → t.test_operands-tested.result.answer ≡ 0 → Silent (rows t)
-silent t z = passed (rows t) t.test_operands-tested.result (given_refusals (ofShort t.args.kind) t.args.bytes.now []) t.test_operands-tested.ensures z
+silent t z = passed (rows t) t.test_operands-tested.result (given_refusals (of_short t.args.kind) t.args.bytes.now []) t.test_operands-tested.ensures z
 
 -- The bytes are as many as the description says, so the message is as long.
 
 counted : (t : After-test_operands-tested) → t.test_operands-tested.result.answer ≡ 0 → t.args.kind.length ≡ 5 + length t.args.bytes.now
 counted t z =
     let whole = row_equal 7 (length t.args.bytes.now) (count_of t.args.kind.operands) (silent t z).0 in
-    omega (arith, (is_sized (ofShort t.args.kind) t.requires).0)
+    omega (arith, (is_sized (of_short t.args.kind) t.requires).0)
 
 size : (t : After-test_operands-tested) → t.test_operands-tested.result.answer ≡ 0 → length (message t) ≡ t.args.kind.length
 size t z = omega (arith, length-append t.args.bytes.now (0xF7 ∷ []), counted t z)
@@ -66,7 +64,7 @@ long o h1 = h1 o.if-tested-ne-DONE.false
 
 pub slice_bounds-put_bytes-count : goal.slice_bounds-put_bytes-count
 slice_bounds-put_bytes-count c =
-     omega (arith, long (goal.at.slice_bounds-put_bytes-count c).After-put_opening (counted (goal.at.slice_bounds-put_bytes-count c).After-test_operands-tested), c.if-out-length.false, c.put_opening.auto.out)
+    omega (arith, long (goal.at.slice_bounds-put_bytes-count c).After-put_opening (counted (goal.at.slice_bounds-put_bytes-count c).After-test_operands-tested), c.if-out-length.false, c.put_opening.auto.out)
 
 pub put_bytes-requires : goal.put_bytes-requires
 put_bytes-requires c =
@@ -75,22 +73,22 @@ put_bytes-requires c =
 
 -- The output behind the opening and the bytes.
 
-abbrev after-bytes : After-put_bytes → List ℕ
-after-bytes w = let xs = w.put_opening.new.out in put_mid 4 (length xs - 4) xs w.put_bytes.new.out
+abbrev after_bytes : After-put_bytes → List ℕ
+after_bytes w = let xs = w.put_opening.new.out in put_mid 4 (length xs - 4) xs w.put_bytes.new.out
 
-same-long : (w : After-put_bytes) → length (after-bytes w) ≡ length w.args.out.now
-same-long w =
+same_long : (w : After-put_bytes) → length (after_bytes w) ≡ length w.args.out.now
+same_long w =
     let xs = w.put_opening.new.out in
     same_len_mid 4 (length xs - 4) xs w.put_bytes.new.out w.put_bytes.auto.out ∙ w.put_opening.auto.out
 
 pub bounds-out-length : goal.bounds-out-length
 bounds-out-length c =
-     omega (arith, long (goal.at.bounds-out-length c).After-put_opening (counted (goal.at.bounds-out-length c).After-test_operands-tested), c.if-out-length.false, same-long (goal.at.bounds-out-length c).After-put_bytes)
+    omega (arith, long (goal.at.bounds-out-length c).After-put_opening (counted (goal.at.bounds-out-length c).After-test_operands-tested), c.if-out-length.false, same_long (goal.at.bounds-out-length c).After-put_bytes)
 
 pub shape_of-out : goal.shape_of-out
 shape_of-out c =
     let s = (goal.at.shape_of-out c).After-put_bytes in
-    length-set (after-bytes s) (c.args.kind.length - 1) 0xF7 ∙ same-long s
+    length-set (after_bytes s) (c.args.kind.length - 1) 0xF7 ∙ same_long s
 
 pub returns : goal.returns
 returns c =

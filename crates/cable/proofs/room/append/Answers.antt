@@ -1,9 +1,6 @@
 -- `append` keeps what is there where it is full, and puts the bytes behind it else: all of them where none is real time.
-use mathlib.Core.Path.{◌≡◌, refl}
-use Prim.Native.Nat.{ℕ}
+use mathlib.Core.Path.{refl}
 use native.Mathlib.Omega.{arith}
-use lib.ListN.{length}
-use borrow.Author.Rules.{rules}
 use Rattle.streams.specs.Bytes.{without_real_time}
 use Rattle.streams.proofs.Noise.{all_kept}
 use Rattle.cable.proofs.Kept.{array_full, array_within, array_grown}

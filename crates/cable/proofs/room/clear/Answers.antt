@@ -1,10 +1,10 @@
 use mathlib.Core.Path.{◌≡◌, refl, ap, ◌∙◌}
 use mathlib.Core.List.{List, [], ◌∷◌, ◌++◌, append-nil}
-use Prim.Native.Nat.{ℕ, zero, suc, ◌+◌, ◌-◌}
+use Prim.Native.Nat.{ℕ, zero, suc, ◌+◌}
 use native.Mathlib.Numerals.{add-one}
 use native.Mathlib.Omega.{arith}
 use lib.ListN.{length, replicate, length-replicate, drop_of_length-le}
-use Rattle.answers.proofs.Copied.{Copied, copied_next}
+use Rattle.answers.proofs.Copied.{copied_next}
 use Rattle.cable.proofs.room.clear.Goals as goal
 
 abbrev zeros : ℕ → List ℕ

@@ -1,11 +1,8 @@
 -- `clear` writes zero after zero.
-use mathlib.Core.Path.{◌≡◌, refl, ap, ◌∙◌}
-use mathlib.Core.List.{List, [], ◌∷◌, ◌++◌, append-nil}
-use Prim.Native.Nat.{ℕ, zero, suc, ◌+◌, ◌-◌}
-use native.Mathlib.Numerals.{add-one}
-use native.Mathlib.Omega.{arith}
-use lib.ListN.{length, replicate, length-replicate, drop_of_length-le}
-use Rattle.answers.proofs.Copied.{Copied, copied_next}
+use mathlib.Core.List.{List}
+use Prim.Native.Nat.{ℕ, ◌-◌}
+use lib.ListN.{length, replicate}
+use Rattle.answers.proofs.Copied.{Copied}
 use Rattle.cable.proofs.room.clear.Given as goal
 
 abbrev zeros : ℕ → List ℕ

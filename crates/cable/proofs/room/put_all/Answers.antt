@@ -1,12 +1,11 @@
-use mathlib.Core.Path.{◌≡◌, refl, sym, ◌∙◌}
-use mathlib.Core.List.{List, [], ◌∷◌, ◌++◌}
-use Prim.Native.Nat.{ℕ, ◌+◌, ◌-◌, ◌≤◌}
+use mathlib.Core.Path.{◌≡◌, refl}
+use mathlib.Core.List.{[], ◌∷◌, ◌++◌}
+use Prim.Native.Nat.{◌+◌}
 use native.Mathlib.Omega.{arith}
 use native.Mathlib.Numerals.{add-one}
-use lib.ListN.{length, get_or, take, drop}
+use lib.ListN.{get_or, take}
 use lib.Seq.{take-suc, length-take-le}
-use borrow.Author.Rules.{rules}
-use Rattle.answers.proofs.Copied.{Copied, copied_next}
+use Rattle.answers.proofs.Copied.{copied_next}
 use Rattle.cable.proofs.Kept.{least_within, kept_least}
 use Rattle.cable.proofs.room.put_all.Goals as goal
 

@@ -1,14 +1,13 @@
-use mathlib.Core.Path.{◌≡◌, refl, sym, ◌∙◌}
+use mathlib.Core.Path.{◌≡◌, refl}
 use mathlib.Core.List.{List, [], ◌∷◌, ◌++◌, append-nil}
-use Prim.Native.Nat.{ℕ, ◌+◌, ◌-◌, ◌≤◌, ◌<◌}
+use Prim.Native.Nat.{ℕ, ◌+◌, ◌≤◌, ◌<◌}
 use native.Mathlib.Omega.{arith}
 use native.Mathlib.Numerals.{add-one}
-use lib.ListN.{length, get_or, take, drop, set, length-set, take-append-drop}
+use lib.ListN.{length, get_or, take, drop, length-set, take-append-drop}
 use lib.Seq.{take-suc, take_all, take-nil}
-use Rattle.streams.specs.Bytes.{realTime, byte_kind, without_real_time}
+use Rattle.streams.specs.Bytes.{realTime, without_real_time}
 use Rattle.streams.proofs.Bytes.{kind_is, stays}
 use Rattle.streams.proofs.Complete.{without_append}
-use Rattle.cable.specs.code.Steps.{Kept}
 use Rattle.cable.proofs.Kept.{kept_more, kept_full}
 use Rattle.cable.proofs.room.put_quiet.Goals as goal
 

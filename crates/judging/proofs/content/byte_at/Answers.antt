@@ -4,7 +4,6 @@ use mathlib.Core.List.{List}
 use Prim.Native.Nat.{ℕ, ◌-◌}
 use native.Mathlib.Omega.{arith}
 use lib.ListN.{length, get_or}
-use borrow.Author.Rules.{rules}
 use Rattle.streams.specs.Bytes.{without_real_time}
 use Rattle.judging.proofs.Places.{stands_byte, content_whole, content_left}
 use Rattle.judging.proofs.content.byte_at.Goals as goal

@@ -1,11 +1,9 @@
-use Prim.Native.Nat.{◌+◌, ◌*◌, ◌-◌, ◌<◌, ◌≤◌}
+use Prim.Native.Nat.{◌+◌, ◌*◌, ◌<◌, ◌≤◌}
 use native.Mathlib.Omega.{arith}
 use lib.ListN.{length, get_or}
-use borrow.Author.Rules.{rules}
-use Rattle.streams.specs.Bytes.{without_real_time}
 use Rattle.frames.proofs.RealTime.{past_least}
-use Rattle.judging.specs.code.Content.{sent_in, StandsAt}
-use Rattle.judging.proofs.Gathering.{Underway, both_narrow, begun, two_more, noise_passed, low_wide, second, high_wide, packed_on, pair_on, gathered}
+use Rattle.judging.specs.code.Content.{StandsAt}
+use Rattle.judging.proofs.Gathering.{both_narrow, begun, two_more, noise_passed, low_wide, second, high_wide, packed_on, pair_on, gathered}
 use Rattle.judging.proofs.content.gather.Goals.{After-past_real_time-next, In-loop-k, Then-low-high-lt16}
 use Rattle.judging.proofs.content.gather.Goals as goal
 
@@ -25,7 +23,7 @@ places i =
 -- Two bytes that pass together are narrow.
 
 narrow : (t : Then-low-high-lt16) →
-     let b = t.args.body.now in
+    let b = t.args.body.now in
     (get_or b t.loop-k.at 0 ≤ 15) × (get_or b (t.loop-k.at + 1) 0 ≤ 15)
 narrow t =
     let b = t.args.body.now in

@@ -1,12 +1,9 @@
 -- `gather` packs pair by pair, passes over real time, and stops at a byte above 15.
-use Prim.Native.Nat.{◌+◌, ◌*◌, ◌-◌, ◌<◌, ◌≤◌}
-use native.Mathlib.Omega.{arith}
-use lib.ListN.{length, get_or}
-use borrow.Author.Rules.{rules}
+use Prim.Native.Nat.{◌-◌}
+use lib.ListN.{length}
 use Rattle.streams.specs.Bytes.{without_real_time}
-use Rattle.frames.proofs.RealTime.{past_least}
-use Rattle.judging.specs.code.Content.{sent_in, StandsAt}
-use Rattle.judging.proofs.Gathering.{Underway, both_narrow, begun, two_more, noise_passed, low_wide, second, high_wide, packed_on, pair_on, gathered}
+use Rattle.judging.specs.code.Content.{sent_in}
+use Rattle.judging.proofs.Gathering.{Underway}
 use Rattle.judging.proofs.content.gather.Given as goal
 
 abbrev pub invariant-loop-k : goal.invariant-loop-k

@@ -5,7 +5,7 @@ use Rattle.judging.proofs.content.last_place.Goals.{In-loop-last}
 use Rattle.judging.proofs.content.last_place.Goals as goal
 
 less : (c : In-loop-last) →
-     (0 < c.loop-last.last) × UpTo c.args.body.now (c.loop-last.last - 1)
+    (0 < c.loop-last.last) × UpTo c.args.body.now (c.loop-last.last - 1)
 less c =
     up_to_less c.args.body.now c.requires c.loop-last.last c.loop-last.invariant c.loop-last-test.true
 

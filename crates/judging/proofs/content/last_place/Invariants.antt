@@ -1,8 +1,6 @@
 -- `last_place` goes back over real time: what is left up to the place at hand is all that is left.
 -- One place further to the front.
-use Prim.Native.Nat.{◌-◌, ◌<◌}
-use native.Mathlib.Omega.{arith}
-use Rattle.judging.proofs.Places.{UpTo, up_to_all, up_to_less, up_to_last}
+use Rattle.judging.proofs.Places.{UpTo}
 use Rattle.judging.proofs.content.last_place.Given as goal
 
 abbrev pub invariant-loop-last : goal.invariant-loop-last

@@ -3,7 +3,6 @@ use mathlib.Core.Path.{◌≡◌, refl, ap}
 use Prim.Native.Nat.{◌+◌, ◌-◌, ◌*◌}
 use native.Mathlib.Omega.{arith}
 use lib.ListN.{length}
-use borrow.Author.Rules.{rules}
 use Rattle.ranges.specs.declared.Failed.{Failed}
 use Rattle.ranges.specs.declared.Failed.TheVariants.{At, Nowhere}
 use Rattle.judging.specs.code.Content.{content_by, sent_in, Gathers}

@@ -1,8 +1,5 @@
 use mathlib.Core.Path.{◌≡◌}
-use Prim.Native.Nat.{◌-◌, ◌≤◌}
 use native.Mathlib.Omega.{arith}
-use borrow.Author.Rules.{rules}
-use Rattle.judging.specs.code.Content.{StandsAt}
 use Rattle.judging.proofs.Places.{stands_first, stands_next, stands_front}
 use Rattle.judging.proofs.content.place_of.Goals as goal
 

@@ -1,10 +1,6 @@
 -- `place_of` goes from byte to byte: byte k stands at the place at hand. Where the first four are quiet, each of them stands at its own index.
-use mathlib.Core.Path.{◌≡◌}
 use Prim.Native.Nat.{◌-◌, ◌≤◌}
-use native.Mathlib.Omega.{arith}
-use borrow.Author.Rules.{rules}
 use Rattle.judging.specs.code.Content.{StandsAt}
-use Rattle.judging.proofs.Places.{stands_first, stands_next, stands_front}
 use Rattle.judging.proofs.content.place_of.Given as goal
 
 abbrev pub invariant-loop-k : goal.invariant-loop-k

@@ -6,13 +6,12 @@ use Prim.Native.Nat.{ℕ, ◌≤◌}
 use native.Mathlib.Omega.{arith}
 use lib.ListN.{length, take, replicate}
 use lib.Seq.{length-take-le}
-use borrow.Author.Rules.{rules}
-use Rattle.messages.specs.declared.kinds.Packed.TheVariants.{Patch as aPatch}
+use Rattle.messages.specs.declared.kinds.Packed.TheVariants.{Patch as a_patch}
 use Rattle.judging.proofs.Places.{content_whole}
 use Rattle.judging.proofs.dumps.check_packed.Goals.{After-size_of, Then-is_plain_patch}
 use Rattle.judging.proofs.dumps.check_packed.Goals as goal
 
-plain : (c : Then-is_plain_patch) → let a = c.args in (a.packed ≡ aPatch) × (a.count ≡ length a.body.now)
+plain : (c : Then-is_plain_patch) → let a = c.args in (a.packed ≡ a_patch) × (a.count ≡ length a.body.now)
 plain c = c.is_plain_patch.ensures c.if-is_plain_patch.true
 
 long : (c : Then-is_plain_patch) → length c.args.body.now ≡ 273
@@ -40,7 +39,7 @@ slice_bounds-check_room-end c = sym (room_of (goal.at.slice_bounds-check_room-en
 
 pub check_room-requires : goal.check_room-requires
 check_room-requires c =
-     (c.requires.0, rw (room_of (goal.at.check_room-requires c).After-size_of) c.size_of.ensures)
+    (c.requires.0, rw (room_of (goal.at.check_room-requires c).After-size_of) c.size_of.ensures)
 
 pub slice_bounds-check_patch-end : goal.slice_bounds-check_patch-end
 slice_bounds-check_patch-end c = omega (arith, long c)

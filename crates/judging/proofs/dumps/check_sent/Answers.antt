@@ -1,6 +1,5 @@
 -- `check_sent` packs, then compares the sum: each return is a case of the rows of a dump's data.
 use mathlib.Core.Path.{refl}
-use borrow.Author.Rules.{rules}
 use Rattle.ranges.specs.declared.Failed.TheVariants.{Nowhere}
 use Rattle.judging.specs.code.Content.{Gathers}
 use Rattle.judging.proofs.Data.{packed_whole, check_refused, check_sum, check_done}

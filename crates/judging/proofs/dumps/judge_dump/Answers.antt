@@ -6,18 +6,16 @@ use mathlib.Core.List.{List, [], ◌∷◌}
 use Prim.Native.Nat.{ℕ, ◌+◌}
 use native.Mathlib.Omega.{arith}
 use lib.ListN.{length, get_or}
-use borrow.Author.Rules.{rules}
 use Rattle.answers.specs.Table.{outcome, four}
 use Rattle.answers.specs.Effect.{tested}
 use Rattle.messages.specs.declared.kinds.Behind.{Behind}
-use Rattle.messages.specs.declared.kinds.Behind.TheVariants.{NumberTo as numberTo, Always as always}
-use Rattle.messages.specs.declared.kinds.Dump.{Dump}
-use Rattle.messages.specs.declared.kinds.Kind.TheVariants.{Dump as ofDump}
+use Rattle.messages.specs.declared.kinds.Behind.TheVariants.{NumberTo as number_to, Always as always}
+use Rattle.messages.specs.declared.kinds.Kind.TheVariants.{Dump as of_dump}
 use Rattle.messages.specs.Judge.{misnumbered, number_in}
 use Rattle.messages.proofs.Filed.{is_sized}
 use Rattle.judging.specs.code.Content.{content_by}
 use Rattle.judging.proofs.Places.{content_within}
-use Rattle.judging.proofs.Verdicts.{Judging, kind_length, kind_stopped, kind_done, content_rows, of_dump}
+use Rattle.judging.proofs.Verdicts.{Judging, kind_length, kind_stopped, kind_done, content_rows, dump_judged}
 use Rattle.judging.proofs.dumps.judge_dump.Goals.{After-check_packed-tested, After-wrong_number, Else-count-kind}
 use Rattle.judging.proofs.dumps.judge_dump.Goals as goal
 
@@ -29,7 +27,7 @@ pub returns-then-count-kind : goal.returns-then-count-kind
 returns-then-count-kind c =
     let content = content_by c.args.count c.args.body.now in
     c.refused_by.ensures
-    ∙ kind_length (of_dump c.args.kind c.requires.0 content) (λ e. c.if-count-kind.true (ap (λ (n : ℕ). n + 2) c.requires.1 ∙ e))
+    ∙ kind_length (dump_judged c.args.kind c.requires.0 content) (λ e. c.if-count-kind.true (ap (λ (n : ℕ). n + 2) c.requires.1 ∙ e))
 
 abbrev content : Else-count-kind → List ℕ
 content e = let a = e.args in content_by a.count a.body.now
@@ -42,12 +40,12 @@ long e = sym (ap (λ (n : ℕ). n + 2) e.requires.1) ∙ e.if-count-kind.false
 -- What the rows of the description come to.
 
 abbrev rows : (e : Else-count-kind)
-    → Judging (ofDump e.args.kind) (content e) (content_rows e.args.kind (content e)) (four (number_in e.args.kind.behind (get_or (content e) 3 0)))
-rows e = of_dump e.args.kind e.requires.0 (content e)
+    → Judging (of_dump e.args.kind) (content e) (content_rows e.args.kind (content e)) (four (number_in e.args.kind.behind (get_or (content e) 3 0)))
+rows e = dump_judged e.args.kind e.requires.0 (content e)
 
 pub byte_at-number-requires : goal.byte_at-number-requires
 byte_at-number-requires c =
-    (c.requires.1, omega (arith, c.requires.1, long c, (is_sized (ofDump c.args.kind) c.requires.0).0))
+    (c.requires.1, omega (arith, c.requires.1, long c, (is_sized (of_dump c.args.kind) c.requires.0).0))
 
 -- The byte behind the opcode.
 
@@ -63,13 +61,13 @@ returns-then-wrong_number c =
 
 pub check_packed-tested-requires : goal.check_packed-tested-requires
 check_packed-tested-requires c =
-    let sized = is_sized (ofDump c.args.kind) c.requires.0 in
+    let sized = is_sized (of_dump c.args.kind) c.requires.0 in
     ((c.requires.1, omega (arith, c.requires.1, long (goal.at.check_packed-tested-requires c).Else-count-kind, sized.0)), sized.1)
 
 -- The byte behind the opcode has passed: what the data and the packed bytes are answered is what the rows are.
 
 answered : (p : After-check_packed-tested) →
-     (h1 : p.wrong_number.result ≡ misnumbered p.args.kind.behind (get_or (let a = p.args in content_by a.count a.body.now) 3 0)) → p.check_packed-tested.result ≡ tested (content_rows p.args.kind (let a = p.args in content_by a.count a.body.now))
+    (h1 : p.wrong_number.result ≡ misnumbered p.args.kind.behind (get_or (let a = p.args in content_by a.count a.body.now) 3 0)) → p.check_packed-tested.result ≡ tested (content_rows p.args.kind (let a = p.args in content_by a.count a.body.now))
 answered p h1 =
     let right : misnumbered p.args.kind.behind (get_or (let a = p.args in content_by a.count a.body.now) 3 0) ≡ false = sym h1 ∙ p.if-wrong_number.false in
     rw right p.check_packed-tested.ensures
@@ -81,13 +79,13 @@ returns-then-tested-ne-DONE c =
 
 -- The number is the first of the bytes that come with the answer, and the only one.
 
-number-only : (b : Behind) (n : ℕ) → get_or (number_in b n) 0 0 ∷ 0 ∷ 0 ∷ 0 ∷ [] ≡ four (number_in b n)
-number-only (numberTo greatest) n = refl
-number-only (always byte) n = refl
+number_only : (b : Behind) (n : ℕ) → get_or (number_in b n) 0 0 ∷ 0 ∷ 0 ∷ 0 ∷ [] ≡ four (number_in b n)
+number_only (number_to greatest) n = refl
+number_only (always byte) n = refl
 
 pub returns : goal.returns
 returns c =
     let s = (goal.at.returns c).Else-count-kind in
     c.accepted.ensures
-    ∙ rw (c.number_of.ensures, c.byte_at-number.ensures, number-only c.args.kind.behind (get_or (content s) 3 0))
+    ∙ rw (c.number_of.ensures, c.byte_at-number.ensures, number_only c.args.kind.behind (get_or (content s) 3 0))
     (kind_done (rows s) (long s) (answered (goal.at.returns c).After-check_packed-tested (number (goal.at.returns c).After-wrong_number)) c.if-tested-ne-DONE.false)

@@ -1,5 +1,4 @@
 -- `wrong_number` tests by the two cases of the description.
-use borrow.Author.Rules.{rules}
 use Rattle.judging.proofs.dumps.wrong_number.Goals as goal
 
 pub returns-in-NumberTo : goal.returns-in-NumberTo

@@ -2,7 +2,6 @@
 use mathlib.Core.Path.{sym}
 use native.Mathlib.Omega.{arith}
 use lib.ListN.{get_or-eq_default}
-use borrow.Author.Rules.{rules}
 use Rattle.judging.specs.code.Content.{content_by}
 use Rattle.judging.proofs.shorts.byte_or_zero.Goals as goal
 

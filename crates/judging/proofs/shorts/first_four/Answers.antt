@@ -1,6 +1,5 @@
 -- `first_four` has each byte in its place.
 use lib.Seq.{get_or-drop}
-use borrow.Author.Rules.{rules}
 use Rattle.judging.specs.code.Content.{content_by}
 use Rattle.judging.proofs.shorts.first_four.Goals as goal
 

@@ -2,7 +2,6 @@
 use mathlib.Core.Path.{◌≡◌, sym, ◌∙◌, ap}
 use native.Mathlib.Omega.{arith}
 use lib.ListN.{length}
-use borrow.Author.Rules.{rules}
 use borrow.Author.Tests.{eq-eqb, ne_eqb}
 use Rattle.messages.specs.Kinds.{count_of}
 use Rattle.judging.proofs.shorts.test_operands.Goals.{In-BusEdit, In-Edit}
@@ -16,36 +15,36 @@ returns-then-bytes-count_of c =
 
 -- The bytes are as many as the kind has.
 
-edit-counted : (c : In-Edit) → length c.args.bytes.now ≡ 2
-edit-counted c = c.if-bytes-count_of.false ∙ c.count_of.ensures ∙ ap count_of c.in-Edit.is
+edit_counted : (c : In-Edit) → length c.args.bytes.now ≡ 2
+edit_counted c = c.if-bytes-count_of.false ∙ c.count_of.ensures ∙ ap count_of c.in-Edit.is
 
-bus-counted : (c : In-BusEdit) → length c.args.bytes.now ≡ 4
-bus-counted c = c.if-bytes-count_of.false ∙ c.count_of.ensures ∙ ap count_of c.in-BusEdit.is
+bus_counted : (c : In-BusEdit) → length c.args.bytes.now ≡ 4
+bus_counted c = c.if-bytes-count_of.false ∙ c.count_of.ensures ∙ ap count_of c.in-BusEdit.is
 
 pub bounds-bytes-0 : goal.bounds-bytes-0
-bounds-bytes-0 c = omega (arith, edit-counted (goal.at.bounds-bytes-0 c).In-Edit)
+bounds-bytes-0 c = omega (arith, edit_counted (goal.at.bounds-bytes-0 c).In-Edit)
 
 pub bounds-bytes-1 : goal.bounds-bytes-1
-bounds-bytes-1 c = omega (arith, edit-counted (goal.at.bounds-bytes-1 c).In-Edit)
+bounds-bytes-1 c = omega (arith, edit_counted (goal.at.bounds-bytes-1 c).In-Edit)
 
 pub bounds-bytes-0-in-BusEdit : goal.bounds-bytes-0-in-BusEdit
-bounds-bytes-0-in-BusEdit c = omega (arith, bus-counted (goal.at.bounds-bytes-0-in-BusEdit c).In-BusEdit)
+bounds-bytes-0-in-BusEdit c = omega (arith, bus_counted (goal.at.bounds-bytes-0-in-BusEdit c).In-BusEdit)
 
 pub bounds-bytes-1-in-BusEdit : goal.bounds-bytes-1-in-BusEdit
-bounds-bytes-1-in-BusEdit c = omega (arith, bus-counted (goal.at.bounds-bytes-1-in-BusEdit c).In-BusEdit)
+bounds-bytes-1-in-BusEdit c = omega (arith, bus_counted (goal.at.bounds-bytes-1-in-BusEdit c).In-BusEdit)
 
 pub bounds-bytes-2 : goal.bounds-bytes-2
-bounds-bytes-2 c = omega (arith, bus-counted (goal.at.bounds-bytes-2 c).In-BusEdit)
+bounds-bytes-2 c = omega (arith, bus_counted (goal.at.bounds-bytes-2 c).In-BusEdit)
 
 pub bounds-bytes-3 : goal.bounds-bytes-3
-bounds-bytes-3 c = omega (arith, bus-counted (goal.at.bounds-bytes-3 c).In-BusEdit)
+bounds-bytes-3 c = omega (arith, bus_counted (goal.at.bounds-bytes-3 c).In-BusEdit)
 
 pub returns-in-Edit : goal.returns-in-Edit
-returns-in-Edit c = rw (c.in-Edit.is, eq-eqb _ 2 (edit-counted (goal.at.returns-in-Edit c).In-Edit)) c.test_edit.ensures
+returns-in-Edit c = rw (c.in-Edit.is, eq-eqb _ 2 (edit_counted (goal.at.returns-in-Edit c).In-Edit)) c.test_edit.ensures
 
 pub returns-in-BusEdit : goal.returns-in-BusEdit
 returns-in-BusEdit c =
-    rw (c.in-BusEdit.is, eq-eqb _ 4 (bus-counted (goal.at.returns-in-BusEdit c).In-BusEdit)) c.test_bus_edit.ensures
+    rw (c.in-BusEdit.is, eq-eqb _ 4 (bus_counted (goal.at.returns-in-BusEdit c).In-BusEdit)) c.test_bus_edit.ensures
 
 pub returns-in-Operation : goal.returns-in-Operation
 returns-in-Operation c =

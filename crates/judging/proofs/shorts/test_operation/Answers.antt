@@ -1,6 +1,5 @@
 -- `test_operation` by whether the bytes are allowed.
 use mathlib.Core.Path.{sym, ◌∙◌}
-use borrow.Author.Rules.{rules}
 use Rattle.judging.proofs.shorts.test_operation.Goals as goal
 
 pub returns-then-allowed : goal.returns-then-allowed

@@ -15,7 +15,6 @@ use Rattle.streams.specs.code.Scan.{outside, inside}
 use Rattle.frames.proofs.Handing.{outside_none, outside_found, inside_again, inside_left, inside_cut}
 use Rattle.messages.specs.Judge.{judge}
 use Rattle.judging.specs.declared.Heard.{Heard}
-use Rattle.judging.specs.code.Heard.{heard_from}
 use Rattle.reading.specs.code.Told.{end_from, report_of, report_from, numbers_told}
 use Rattle.reading.specs.code.Rooms.{numbers_of, width, ReadsBack}
 use Rattle.reading.proofs.Spans.{span_length, told_report_from, end_within}
@@ -56,22 +55,22 @@ module _ {t : ℕ} (c : list_inside-After-put_report t) where
   index : counted ≡ length (body rest)
   index = ap (λ (h : Heard). h.span.length) c.judge_from-heard.ensures ∙ span_length rest
 
-  its-report : c.report_of.result ≡ report_of (message_at judge start rest)
-  its-report = c.report_of.ensures ∙ ap (report_from start) c.judge_from-heard.ensures ∙ told_report_from rest start
+  its_report : c.report_of.result ≡ report_of (message_at judge start rest)
+  its_report = c.report_of.ensures ∙ ap (report_from start) c.judge_from-heard.ensures ∙ told_report_from rest start
 
   -- The report stands at the start of the room.
   first : filled ≡ numbers_of (message_at judge start rest) ++ drop width room
-  first = c.put_report.ensures ∙ ap (λ (l : List ℕ). l ++ drop width room) (ap numbers_told its-report)
+  first = c.put_report.ensures ∙ ap (λ (l : List ℕ). l ++ drop width room) (ap numbers_told its_report)
 
   tells : ReadsBack (message_at judge start rest)
   tells =
       let r = c.report_of.result in
       let small : SFits w16 r.outcome.value = search rules in
-      value_told (message_at judge start rest) r its-report small
+      value_told (message_at judge start rest) r its_report small
 
   -- The reports listed behind it are in the room too.
-  in-room : (rs : List Report) (new : List ℕ) (k : ℕ) → PartHolds filled rs new k → 1 + k ≤ length room
-  in-room rs new k l = omega (arith, part_fits filled rs l, c.put_report.auto.room, fits)
+  in_room : (rs : List Report) (new : List ℕ) (k : ℕ) → PartHolds filled rs new k → 1 + k ≤ length room
+  in_room rs new k l = omega (arith, part_fits filled rs l, c.put_report.auto.room, fits)
 
 pub list_inside-returns-then-rest-n : goal.list_inside-returns-then-rest-n
 list_inside-returns-then-rest-n t c =

@@ -3,7 +3,6 @@ use mathlib.Core.Path.{sym}
 use Prim.Native.Nat.{◌*◌}
 use native.Mathlib.Omega.{arith}
 use lib.Seq.{length-take-le}
-use borrow.Author.Rules.{rules}
 use Rattle.answers.proofs.Lists.{to_end}
 use Rattle.reading.specs.code.Rooms.{width, most}
 use Rattle.reading.proofs.Rooms.{fills_part, fills_whole}

@@ -2,7 +2,6 @@
 use Prim.Native.Nat.{◌*◌, ◌≤◌}
 use native.Mathlib.Omega.{arith}
 use lib.ListN.{length}
-use borrow.Author.Rules.{rules}
 use Rattle.reading.specs.code.Rooms.{width}
 use Rattle.reading.proofs.Rooms.{makes_none, makes_zero, makes_some, made_fits}
 use Rattle.reading.proofs.listing.reports.Goals.{Else-count-eq0}
@@ -20,7 +19,7 @@ returns-then-count-eq0 c =
 
 fits : (c : Else-count-eq0)
     →
-     width * c.list_some-count.result ≤ length c.args.room.now
+    width * c.list_some-count.result ≤ length c.args.room.now
 fits c =
     let a = c.args in
     made_fits a.s.now a.place a.room.now c.list_some-count.new.room c.list_some-count.result c.list_some-count.ensures

@@ -4,7 +4,6 @@ use Prim.Native.Nat.{◌+◌, ◌-◌}
 use native.Mathlib.Omega.{arith}
 use native.Mathlib.Numerals.{add-one}
 use lib.ListN.{length, take, drop}
-use borrow.Author.Rules.{rules}
 use Rattle.answers.proofs.Lists.{to_end}
 use Rattle.streams.specs.Stream.{read}
 use Rattle.frames.proofs.Found.{walk_none, walk_found}

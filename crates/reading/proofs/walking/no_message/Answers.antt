@@ -1,5 +1,4 @@
 -- `no_message` gives 1 at the input's length.
-use borrow.Author.Rules.{rules}
 use Rattle.reading.proofs.walking.no_message.Goals as goal
 
 pub returns : goal.returns

@@ -1,7 +1,6 @@
 -- `walk` finds the first F0H at the place or later, and gives the message there.
 use mathlib.Core.Path.{sym, ap, ◌∙◌}
 use native.Mathlib.Omega.{arith}
-use borrow.Author.Rules.{rules}
 use Rattle.judging.specs.declared.Heard.{Heard}
 use Rattle.reading.specs.declared.recording.Reading.{Reading}
 use Rattle.reading.proofs.Found.{none_found, found_there, end_fits}
