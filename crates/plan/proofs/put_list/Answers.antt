@@ -5,7 +5,6 @@ use Prim.Native.Nat.{ℕ, ◌≤◌}
 use native.Mathlib.Omega.{arith}
 use lib.ListN.{length, take, drop, length-append}
 use lib.Seq.{length-take-le, take_at}
-use borrow.Author.Rules.{rules}
 use Rattle.answers.specs.declared.Outcome.{Outcome}
 use Rattle.answers.specs.Effect.{tested, Gives}
 use Rattle.answers.proofs.Rows.{answered_silent}
@@ -15,8 +14,7 @@ use Rattle.pairs.proofs.Pair.{pair_refusals}
 use Rattle.edit_lists.specs.Lists.{list_bytes}
 use Rattle.edit_lists.specs.Plan.{plan, planning}
 use Rattle.edit_lists.proofs.Left.{list_most}
-use Rattle.plan.proofs.put_list.Statement.{statement}
-use Rattle.plan.proofs.put_list.Tie as tie
+use Rattle.plan.proofs.put_list.Goals as goal
 
 -- The first n bytes of what the planner leaves are the list.
 abbrev Lists : List ℕ → List ℕ → List ℕ → ℕ → Type 0
@@ -32,24 +30,15 @@ planned a b out after r z l g =
     let n : r.detail ≡ length list = ap (λ (o : Outcome). o.detail) w.result in
     rw (n, w.lent) (simp length-append (omega arith), take_at list (drop (length list) out) (length list) refl)
 
-lists : (p : tie.After-plan) → let k = p.before.before.before.before.before.args in
-    Lists k.a.now k.b.now p.plan.new.1.1.0 p.plan.result.detail
-lists p = planned _ _ _ _ p.plan.result p.before.before.before.before.before.requires refl p.plan.ensures
+pub slice_bounds-list-end : goal.slice_bounds-list-end
+slice_bounds-list-end c = let p = c.plan-planned in (planned c.args.a.now c.args.b.now _ p.new.out p.result c.requires refl p.ensures).0
 
-slice-aggregate-put : tie.Need-slice-aggregate-put
-slice-aggregate-put c = sym (length-take-le _ _ (lists c.before.before.before).0)
+pub slice_bounds-put-end : goal.slice_bounds-put-end
+slice_bounds-put-end c =
+    let p = c.plan-planned in
+    sym (length-take-le _ _ (planned c.args.a.now c.args.b.now _ p.new.out p.result c.requires refl p.ensures).0)
 
-returns : tie.Need-returns
-returns c = let p = c.before.before in rw (lists p.before.before.before.before).1 at p.put.ensures
-
-pub put-list-spec : {M : Type 1} → statement M
-put-list-spec =
-    tie.close
-    (tie.spec
-    (λ c. search rules)
-    (λ c κs. search rules)
-    (λ c. (lists c.before.before).0)
-    slice-aggregate-put
-    (λ c κs. search rules)
-    (λ c. search rules)
-    returns)
+pub returns : goal.returns
+returns c =
+    let p = c.plan-planned in
+    rw (planned c.args.a.now c.args.b.now _ p.new.out p.result c.requires refl p.ensures).1 at c.put.ensures
