@@ -26,6 +26,7 @@ APART = {
     "found-place": "place_is_found", "found-text": "text_found", "bank-tested": "bank_is_tested", "first-wide": "first_is_wide",
     "new-records": "records_of_new", "old-records": "records_of_old", "data-of": "data_is", "sum-of": "sum_is", "kind-of": "kind_found",
     "none-behind": "none_stand_behind", "record-in": "record_lies_in", "by-kind": "by_its_kind", "by-operands": "by_its_operands",
+    "of-dump": "dump_judged", "of-short": "short_judged", "any-bytes": "bytes_of_any",
 }
 # The same for a lemma that is in snake case already, in a part of the repository.
 APART_IN = {"crates/edit_lists/proofs/": ("same_bytes", "bytes_alike"), "crates/exports/proofs/Lookups.antt": ("place_byte", "place_byte_at")}
@@ -89,6 +90,11 @@ def main(dry):
             for name in declared(text):
                 own[name].add(path)
     turned = {n for n in own if n[0].islower() and snake(n) != n}
+    # Names under which specs/ and proofs/ pass others on.
+    for path, text in texts.items():
+        for m in re.finditer(r"\bpub use\s+[\w.'-]+\.\{([^}]*)\}", text):
+            words = [item.split() for item in m.group(1).split(",")]
+            turned |= {w[2] for w in words if len(w) == 3 and w[1] == "as" and w[2][0].islower() and snake(w[2]) != w[2]}
     clashes = 0
     for path, text in texts.items():
         # The library's names of this file, which stay; aliases of own names, which go along.
@@ -96,13 +102,10 @@ def main(dry):
         for module, name, alias in imports(text):
             if name is None:
                 continue
-            if OWN_MODULE.match(module) and not MADE.search(module):
-                if alias and alias[0].islower():
-                    aliases.add(alias)
-            else:
-                kept.add(alias or name)
-                if alias is None and name != snake(name) and name not in turned:
-                    kept.add(name)
+            if alias and alias[0].islower():
+                aliases.add(alias)
+            elif not OWN_MODULE.match(module) or MADE.search(module):
+                kept.add(name)
         here = (turned | {a for a in aliases if snake(a) != a}) - kept
         if path.endswith(".rt"):
             new = turn_rust(text, here)
