@@ -1,16 +1,18 @@
 // Input put into lent room. No buffer stands in between, so that no more is read than there is room for.
-ghost use Rattle.std.specs.Prelude.{ℕ, ◌<◌, length, take, IfOk};
+ghost use Rattle.std.specs.Prelude.{ℕ, ◌<◌, ◌≤◌, length, take, IfOk, OnErr};
 ghost use Rattle.std.specs.Io.KnownBytes.{Consumes, IsAtEnd};
 ghost use Rattle.text.specs.Text.{IsPrefixLen};
 
 use std::io;
 use std::io::Read;
 
-// Reads until the room is full or the input ends; answers how many bytes stand at the room's start.
+// Reads until the room is full or the input ends; answers how many bytes stand at the room's start. Where a read fails, what was taken before
+// stands there.
 pub fn read_full<R: Read>(input: &mut R, room: &mut [u8]) -> io::Result<usize>
     ensures prefix_len { IfOk result (λ n. IsPrefixLen n room.new) }
     ensures bytes { IfOk result (λ n. Consumes (R.remaining input.old) (R.remaining input.new) (take n room.new)) }
     ensures ends { IfOk result (λ n. n < length room.new → IsAtEnd (R.remaining input.new)) }
+    ensures none_lost { OnErr result ((n : ℕ) × (n ≤ length room.new) × Consumes (R.remaining input.old) (R.remaining input.new) (take n room.new)) }
 {
     let mut end: usize = 0;
     while end < room.len() {
