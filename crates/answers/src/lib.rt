@@ -4,6 +4,7 @@
 ghost use Rattle.std.specs.Prelude.{◌≡◌};
 ghost use Rattle.answers.specs.Table.{outcome, outcome_at};
 ghost use Rattle.answers.specs.Effect.{no_place};
+ghost use Rattle.answers.specs.Refusals.{outcome_by, told, told_test};
 ghost use Rattle.answers.specs.code.Numbers.{as_number};
 
 // Document 01, 'Numbers the register prints'.
@@ -68,6 +69,87 @@ pub struct Outcome {
 pub struct Placed {
     pub outcome: Outcome,
     pub place: usize,
+}
+
+// A place, and the value that was found there.
+#[derive(Clone, Copy, Debug, PartialEq, Eq)]
+pub struct Found {
+    pub place: usize,
+    pub value: i16,
+}
+
+// Why a call is refused: with a byte that no nibble is, its index among the data bytes; with a value out of range, where it stands; with a
+// bus half used, which.
+#[derive(Clone, Copy, Debug, PartialEq, Eq)]
+pub enum Refusal {
+    NoMessage,
+    Cut,
+    Interrupted,
+    OtherMaker,
+    OtherDevice,
+    OtherOpcode,
+    WrongLength,
+    NotAllowed,
+    WideData(usize),
+    WrongSum,
+    OutOfRange(Found),
+    HalfUsed(usize),
+    NoRoom,
+    OtherForm,
+    OtherName,
+    NotAccepted,
+    TooMany,
+}
+
+// The register's number of a refusal, with its detail and value. 14 is withdrawn.
+impl From<Refusal> for Outcome {
+    ghost from_gives = { λ r o. o ≡ outcome_by r };
+
+    fn from(refusal: Refusal) -> Outcome {
+        match refusal {
+            Refusal::NoMessage => refused(1, 0),
+            Refusal::Cut => refused(2, 0),
+            Refusal::Interrupted => refused(3, 0),
+            Refusal::OtherMaker => refused(4, 0),
+            Refusal::OtherDevice => refused(5, 0),
+            Refusal::OtherOpcode => refused(6, 0),
+            Refusal::WrongLength => refused(7, 0),
+            Refusal::NotAllowed => refused(8, 0),
+            Refusal::WideData(index) => refused(9, index),
+            Refusal::WrongSum => refused(10, 0),
+            Refusal::OutOfRange(found) => out_of_range(found.place, found.value),
+            Refusal::HalfUsed(bus) => refused(12, bus),
+            Refusal::NoRoom => refused(13, 0),
+            Refusal::OtherForm => refused(15, 0),
+            Refusal::OtherName => refused(16, 0),
+            Refusal::NotAccepted => refused(20, 0),
+            Refusal::TooMany => refused(21, 0),
+        }
+    }
+}
+
+// Done with a detail, or refused.
+impl From<Result<usize, Refusal>> for Outcome {
+    ghost from_gives = { λ r o. o ≡ told r };
+
+    fn from(answer: Result<usize, Refusal>) -> Outcome {
+        match answer {
+            Ok(detail) => done(detail),
+            Err(refusal) => refusal.into(),
+        }
+    }
+}
+
+// What a test comes to: done with detail 0, or refused.
+impl From<Result<(), Refusal>> for Outcome {
+    ghost from_gives = { λ r o. o ≡ told_test r };
+
+    fn from(answer: Result<(), Refusal>) -> Outcome {
+        match answer {
+            Ok(()) => done(0),
+            Err(refusal) => refusal.into(),
+        }
+    }
 }
 
 // Done, with a detail.

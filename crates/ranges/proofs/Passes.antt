@@ -1,5 +1,5 @@
 -- Passes over bytes, byte by byte: what a flag that stays clear has shown so far, and what it has shown at the end.
-use Rattle.std.proofs.Common.{◌≡◌, ℕ, ◌+◌, ◌-◌, ◌<◌, ◌≤◌, Bool, true, false, eqb, ltb, List, length, get_or, refl, arith, below_more, ltb-false, ltb-true}
+use Rattle.std.proofs.Common.{◌≡◌, ℕ, ◌+◌, ◌-◌, ◌<◌, ◌≤◌, Bool, true, false, ltb, List, length, get_or, refl, arith, below_more, ltb-false, ltb-true}
 use mathlib.Core.Option.{Option, none, some}
 use Rattle.answers.specs.Table.{Found, found}
 use Rattle.ranges.specs.Ranges.{Table, in_row, out_from}
@@ -33,19 +33,19 @@ module _ (t : Table) (p : List ℕ) where
           let z : ◌≡◌ {A = ℕ} 0 1 = cc in
           absurd (omega arith)
 
-  -- What the flag of a pass over the first k bytes tells: clear, each is in its range; set, one is not.
-  pub data Seen (flag k : ℕ) : Type 0 where
-    clear : flag ≡ 0 → InRows t 0 k p → Seen flag k
-    set : flag ≡ 1 → (j : ℕ) → j < k → in_row t j (get_or p j 0) ≡ false → Seen flag k
+  -- What the flag of a pass over the first k bytes tells: true, each is in its range; else one is not.
+  pub data Seen (all : Bool) (k : ℕ) : Type 0 where
+    whole : all ≡ true → InRows t 0 k p → Seen all k
+    broken : all ≡ false → (j : ℕ) → j < k → in_row t j (get_or p j 0) ≡ false → Seen all k
 
-  pub seen_in : (flag k : ℕ) → Seen flag k → in_row t k (get_or p k 0) ≡ true → Seen flag (k + 1)
-  seen_in flag k (clear z h) e = clear z (rows_more 0 k h e)
-  seen_in flag k (set z j l out) e = set z j (omega arith) out
+  pub seen_in : (all : Bool) (k : ℕ) → Seen all k → in_row t k (get_or p k 0) ≡ true → Seen all (k + 1)
+  seen_in all k (whole z h) e = whole z (rows_more 0 k h e)
+  seen_in all k (broken z j l out) e = broken z j (omega arith) out
 
-  -- At the end it tells whether the search would find anything.
-  pub seen_all : (flag : ℕ) → Seen flag (length p) → eqb flag 0 ≡ nothing (out_from t 0 p)
-  seen_all flag (clear z h) = rw (z, rows_in h)
-  seen_all flag (set z j l out) = rw z (go (out_from t 0 p) refl)
+  -- At the end it tells whether the search would find nothing.
+  pub seen_all : (all : Bool) → Seen all (length p) → all ≡ nothing (out_from t 0 p)
+  seen_all all (whole z h) = rw (z, rows_in h)
+  seen_all all (broken z j l out) = rw z (go (out_from t 0 p) refl)
     where
       go : (o : Option Found) → out_from t 0 p ≡ o → false ≡ nothing o
       go (some f) e = refl

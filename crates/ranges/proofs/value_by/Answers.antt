@@ -1,6 +1,5 @@
 -- With its sign where the field is signed; else the byte itself.
-use Rattle.std.proofs.Common.{arith, to_z-of_z, w16}
-use mir.Facts.{to_z_pos}
+use Rattle.std.proofs.Common.{to_z-of_z}
 use Rattle.ranges.specs.Values.{value_by}
 use Rattle.ranges.proofs.value_by.Goals as goal
 
@@ -10,4 +9,4 @@ returns-then-signed c = rw (to_z-of_z (record { sfits = c.with_sign.type_inv }),
 
 pub returns : goal.returns
 unfolding value_by
-returns c = rw (to_z_pos w16 {n = c.args.b} (omega arith), c.if-signed.false)
+returns c = rw (to_z-of_z (record { sfits = c.from.type_inv }), c.if-signed.false) c.from.ensures
