@@ -1,18 +1,16 @@
-use Rattle.std.proofs.Common.{◌≡◌, ℕ, ◌%◌, sym, ap, ◌∙◌, arith}
+-- The bytes are added up, each sum reduced by 256 as it is made, and the whole once more by 128: that is their sum.
+use Rattle.std.proofs.Common.{◌≡◌, ℕ, ◌+◌, ◌%◌, List, [], ◌∷◌, fold, refl, rules}
 use Rattle.nibbles.specs.promises.Reduced.{reducing}
-use Rattle.nibbles.proofs.Laws.{reduced, reducing_drop, reducing_end}
+use Rattle.nibbles.proofs.Laws.{reduced}
 use Rattle.nibbles.proofs.checksum.Goals as goal
 
-pub loop-i-preserved : goal.loop-i-preserved
-loop-i-preserved c =
-    let packed = c.args.packed.now in
-    let at = c.loop-i in
-    let next = reducing_drop 256 at.total packed at.i (omega arith) in
-    (omega arith, rw c.wrapping_add_u8-total.ensures.value (at.invariant.1 ∙ next))
+added : (s : ℕ) (bytes : List ℕ) → fold (λ t b. (t + b) % 256) s bytes ≡ reducing 256 s bytes
+unfolding reducing
+added s [] = refl
+added s (b ∷ bytes) = added ((s + b) % 256) bytes
 
 pub returns : goal.returns
 returns c =
     let packed = c.args.packed.now in
-    let at = c.loop-i in
-    let all : reducing 256 0 packed ≡ at.total = at.invariant.1 ∙ reducing_end 256 at.total packed at.i (omega arith) in
-    ap (λ (t : ℕ). t % 128) (sym all) ∙ reduced.by_256 packed
+    let e : c.fold.result ≡ fold (λ t b. (t + b) % 256) 0 packed = search rules in
+    rw (e, added 0 packed) (reduced.by_256 packed)
