@@ -4,9 +4,10 @@
 
 ghost use Rattle.std.specs.Prelude.{◌≡◌};
 ghost use Rattle.answers.specs.Effect.{tested};
+ghost use Rattle.answers.specs.Refusals.{told_test};
 ghost use Rattle.splits.specs.Splits.{split_rows};
 
-use answers::Outcome;
+use answers::Refusal;
 
 // How many bytes a split has.
 pub const SIZE: usize = 18;
@@ -16,7 +17,7 @@ const NONE: u8 = 255;
 
 // A row for each byte: its place, its parameter number, its least and its greatest value. Values are bytes as stored: a least value above
 // the greatest is that of a signed field, 0xE0 for -32.
-const FIELDS: [[u8; 4]; SIZE] = [
+static FIELDS: [[u8; 4]; SIZE] = [
     // The name.
     [0, NONE, 0, 63],
     [1, NONE, 0, 63],
@@ -44,19 +45,19 @@ const FIELDS: [[u8; 4]; SIZE] = [
 ];
 
 // The test of a split by its rows.
-fn test_rows(p: &[u8]) -> Outcome
-    ensures { result ≡ tested (split_rows p.now) }
+fn test_rows(p: &[u8]) -> Result<(), Refusal>
+    ensures { told_test result ≡ tested (split_rows p.now) }
 {
-    ranges::test(SIZE, &FIELDS, p)
+    ranges::test(SIZE, Some(&FIELDS), p)
 }
 
-// The test of a split: 7 for another count of bytes than 18, then 11 with the lowest place out of range and the value found there; done
-// with detail 0. Most pass, and one pass over them is all that they cost.
-pub fn test(p: &[u8]) -> Outcome
-    ensures { result ≡ tested (split_rows p.now) }
+// The test of a split: 7 for another count of bytes than 18, then 11 with the lowest place out of range and the value found there. Most pass,
+// and one pass over them is all that they cost.
+pub fn test(p: &[u8]) -> Result<(), Refusal>
+    ensures { told_test result ≡ tested (split_rows p.now) }
 {
     if ranges::all_in(SIZE, &FIELDS, p) {
-        return answers::done(0);
+        return Ok(());
     }
     test_rows(p)
 }

@@ -8,4 +8,4 @@ pub returns-then-all_in : goal.returns-then-all_in
 unfolding split_fields
 returns-then-all_in c =
     let p = c.args.p.now in
-    c.done.ensures ∙ all_pass 18 split_fields p (sym c.all_in.ensures ∙ c.if-all_in.true)
+    all_pass 18 split_fields p (sym c.all_in.ensures ∙ c.if-all_in.true)
