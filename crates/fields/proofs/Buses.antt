@@ -4,7 +4,7 @@ use Rattle.ranges.specs.Ranges.{least_in, greatest_in, in_row}
 use Rattle.ranges.proofs.Below.{parts, each, at}
 use Rattle.ranges.proofs.Between.{Lies, plain, positive, negative, lies}
 use Rattle.fields.specs.Fields.{fields, least_at, greatest_at, in_range}
-use Rattle.fields.specs.code.Columns.{bus_table}
+use Rattle.fields.specs.code.Lookups.{bus_table}
 
 -- Two places have the same bounds.
 abbrev alike : ℕ → ℕ → Bool

@@ -1,30 +1,26 @@
 -- The place of a parameter, as the lookup finds it; and as one number, 255 where there is none, which is no place.
-use Rattle.std.proofs.Common.{◌≡◌, ℕ, ◌<◌, ◌≤◌, Bool, true, false, cond, ◌||◌, eqb, leb, sym, refl, ap, ◌∙◌, arith, lt-ltb, le-leb}
+use Rattle.std.proofs.Common.{◌≡◌, ℕ, ◌<◌, ◌≤◌, Bool, true, false, cond, ◌||◌, List, map, length, get_or, ltb, leb, sym, refl, ap, ◌∙◌, arith, ltb-false, ltb-true, ne_eqb, lt-ltb, le-leb}
 use mathlib.Core.Option.{Option, none, some}
-use borrow.Author.Tests.{eqb-false}
+use lib.ListN.{get_or-eq_default}
+use borrow.Author.Tests.{lt-leb}
+use Rattle.std.specs.List.{range_with_len}
+use Rattle.std.proofs.lemmas.List.FromFn.{get_or-map-range_with_len}
+use Rattle.std.specs.Prelude.{Option as Maybe, Some, None}
+use Rattle.std.proofs.lemmas.Option.{none-some, same_Some}
 use Rattle.fields.specs.Fields.{place_of, parameter_of, parameter_at, size}
 use Rattle.fields.specs.declared.BytePlace.{BytePlace}
-use Rattle.fields.specs.declared.FoundPlace.{FoundPlace}
-use Rattle.fields.specs.declared.FoundPlace.TheVariants.{At, Nothing as no_place}
-use Rattle.fields.specs.code.Columns.{found_place, or_none}
+use Rattle.fields.specs.code.Lookups.{found_place, or_none}
 use Rattle.fields.proofs.Rules.{place_is_found}
 
--- The place that a lookup found.
-abbrev placed : FoundPlace → Option ℕ
-placed (At r) = some r.0
-placed no_place = none
-
-placed_back : (o : Option ℕ) → placed (found_place o) ≡ o
-placed_back none = refl
-placed_back (some k) = refl
-
 -- A lookup that found a place found the definition's.
-pub found_there : (o : Option ℕ) (f : FoundPlace) (r : BytePlace) → f ≡ At r → f ≡ found_place o → o ≡ some r.0
-found_there o f r e q = sym (placed_back o) ∙ sym (ap placed q) ∙ ap placed e
+pub found_there : (o : Option ℕ) (f : Maybe BytePlace) (r : BytePlace) → f ≡ Some r → f ≡ found_place o → o ≡ some r.0
+found_there none f r e q = absurd (none-some r (sym q ∙ e))
+found_there (some k) f r e q = ap some (ap (λ (p : BytePlace). p.0) (same_Some (record { 0 = k }) r (sym q ∙ e)))
 
 -- One that found none: nor does the definition.
-pub found_nowhere : (o : Option ℕ) (f : FoundPlace) → f ≡ no_place → f ≡ found_place o → o ≡ none
-found_nowhere o f e q = sym (placed_back o) ∙ sym (ap placed q) ∙ ap placed e
+pub found_nowhere : (o : Option ℕ) (f : Maybe BytePlace) → f ≡ None → f ≡ found_place o → o ≡ none
+found_nowhere none f e q = refl
+found_nowhere (some k) f e q = absurd (none-some (record { 0 = k }) (sym e ∙ q))
 
 -- What is 255 as one number is none, and what is not is that number.
 pub numbered_none : (o : Option ℕ) → (o ≡ some 255 → ⊥) → or_none o ≡ 255 → o ≡ none
@@ -35,25 +31,42 @@ pub numbered_some : (o : Option ℕ) → (or_none o ≡ 255 → ⊥) → o ≡ s
 numbered_some none d = absurd (d refl)
 numbered_some (some k) d = refl
 
--- 255 is no place and no parameter.
+-- 255 is no place.
 pub no_place_255 : (n : ℕ) → place_of n ≡ some 255 → ⊥
 no_place_255 n e = let h = (place_is_found n 255 e).high in omega arith
-
-pub no_parameter_255 : (k : ℕ) → parameter_of k ≡ some 255 → ⊥
-unfolding parameter_of
-no_parameter_255 k e = go (leb size k) (eqb (parameter_at k) 255) refl e
-  where
-    go : (t s : Bool) → eqb (parameter_at k) 255 ≡ s → cond (t || s) none (some (parameter_at k)) ≡ some 255 → ⊥
-    go true s q e = let z : ◌≡◌ {A = ℕ} 0 1 = cc in omega arith
-    go false true q e = let z : ◌≡◌ {A = ℕ} 0 1 = cc in omega arith
-    go false false q e = let same : parameter_at k ≡ 255 = cc in eqb-false (parameter_at k) 255 q same
 
 -- No place past the table has a parameter.
 pub parameter_past : (k : ℕ) → size ≤ k → parameter_of k ≡ none
 unfolding parameter_of
 parameter_past k h = simp (le-leb size k h)
 
+-- One whose row has 255 there has none; another one of the table has the parameter of its row.
+pub no_parameter_at : (k : ℕ) → parameter_at k ≡ 255 → parameter_of k ≡ none
+unfolding parameter_of
+no_parameter_at k e = rw e (go (leb size k))
+  where
+    go : (t : Bool) → cond {A = Option ℕ} (t || true) none (some 255) ≡ none
+    go true = refl
+    go false = refl
+
+pub parameter_here : (k : ℕ) → k < size → (parameter_at k ≡ 255 → ⊥) → parameter_of k ≡ some (parameter_at k)
+unfolding parameter_of
+parameter_here k h d = simp (lt-leb size k h, ne_eqb _ _ d)
+
 -- No parameter above 99 has a place.
 pub place_past : (n : ℕ) → 99 < n → place_of n ≡ none
 unfolding place_of
 place_past n h = simp (lt-ltb 99 n h)
+
+-- The places of the parameters 0..99 as the code lists them.
+abbrev pub place_bytes : List ℕ
+place_bytes = map (λ (n : ℕ). or_none (place_of n)) (range_with_len 0 100)
+
+pub place_read : (n : ℕ) → get_or place_bytes n 255 ≡ or_none (place_of n)
+place_read n = go (ltb n 100) refl
+  where
+    go : (t : Bool) → ltb n 100 ≡ t → get_or place_bytes n 255 ≡ or_none (place_of n)
+    go true q = get_or-map-range_with_len (λ (n : ℕ). or_none (place_of n)) 0 100 n n 255 (ltb-true n 100 q) (omega arith)
+    go false q =
+        let h : length place_bytes ≤ n = ltb-false n 100 q in
+        rw (place_past n (ltb-false n 100 q)) (get_or-eq_default place_bytes 255 h)

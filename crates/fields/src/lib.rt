@@ -1,21 +1,20 @@
 // The 134 bytes of a patch as document 01 lists them: byte place, parameter number, least and greatest value, and the lookups over them.
 #![tactic(auto)]
 
-pub mod columns;
 mod rows;
 
-ghost use Rattle.std.specs.Prelude.{◌≡◌, ◌<◌, [], slice_index, slice_index_or};
-ghost use Rattle.fields.specs.Fields.{fields, least_at, greatest_at, in_range, value_at, place_of, parameter_of};
+ghost use Rattle.std.specs.Prelude.{◌≡◌};
+ghost use Rattle.fields.specs.Fields.{least_at, greatest_at, in_range, value_at, place_of, parameter_of};
 ghost use Rattle.fields.specs.Parameters.{ranging};
-ghost use Rattle.fields.specs.code.Columns.{range_at, found_place, found_parameter};
+ghost use Rattle.fields.specs.code.Lookups.{row_at, found_place, found_parameter};
 
-use crate::columns::{NOWHERE, eight_parameters, eight_places, four_ranges};
-use crate::rows::{FIELDS, R0, R26, R104, R105, R106};
+use crate::rows::{NONE, PLACE_OF, R0, R26, R104, R105, R106};
+pub use crate::rows::{FIELDS, GREATEST, LEAST};
 use answers::{NOT_ALLOWED, Outcome};
 
 // A row: a byte place, its parameter number, its least and its greatest value. Values are bytes as stored: a least value above the
 // greatest is that of a signed field, 0xC0 for -64, 0xE0 for -32.
-#[derive(Clone, Copy)]
+#[derive(Clone, Copy, Debug, PartialEq, Eq)]
 pub struct Field(pub u8, pub u8, pub u8, pub u8);
 
 // How many bytes a patch has, each with its place.
@@ -48,97 +47,73 @@ pub const AMOUNT_AT: usize = R105.0 as usize;
 pub const DESTINATION_AT: usize = R106.0 as usize;
 
 // The listing's first column: which of the 134 bytes.
-#[derive(Clone, Copy)]
+#[derive(Clone, Copy, Debug, PartialEq, Eq)]
 pub struct BytePlace(pub u8);
 
 // The listing's second column: the number that a remote edit names.
-#[derive(Clone, Copy)]
+#[derive(Clone, Copy, Debug, PartialEq, Eq)]
 pub struct Parameter(pub u8);
 
-#[derive(Clone, Copy)]
-pub enum FoundPlace {
-    At(BytePlace),
-    Nothing,
-}
-
-#[derive(Clone, Copy)]
-pub enum FoundParameter {
-    Of(Parameter),
-    Nothing,
-}
-
-// A number of a place's row, 0 past the table. The callers below name a column.
-fn entry(place: BytePlace, column: usize) -> u8
-    requires { column < 4 }
-    ensures { result ≡ slice_index (slice_index_or fields place.0 []) column }
+// The row of a place; past the table its numbers are 0.
+fn row_of(place: BytePlace) -> Field
+    ensures { result ≡ row_at place.0 }
 {
-    let k = place.0 as usize;
-    if PLACES <= k {
-        return 0;
-    }
-    FIELDS[k * 4 + column]
+    FIELDS
+        .get(place.0 as usize)
+        .copied()
+        .unwrap_or(Field(0, 0, 0, 0))
 }
 
 // The least value of a place, as a byte; 0 past the table.
 pub fn least_of(place: BytePlace) -> u8
     ensures { result ≡ least_at place.0 }
 {
-    entry(place, 2)
+    row_of(place).2
 }
 
 // The greatest value of a place, as a byte; 0 past the table.
 pub fn greatest_of(place: BytePlace) -> u8
     ensures { result ≡ greatest_at place.0 }
 {
-    entry(place, 3)
+    row_of(place).3
 }
 
-// The place of a parameter, by the table's columns.
-pub fn place_of(parameter: Parameter) -> FoundPlace
+// The place of a parameter.
+pub fn place_of(parameter: Parameter) -> Option<BytePlace>
     ensures { result ≡ found_place (place_of parameter.0) }
 {
-    let n = parameter.0 as usize;
-    let k = (eight_places(n / 8) >> (8 * (n % 8))) % 256;
-    if k == NOWHERE {
-        return FoundPlace::Nothing;
+    let place = *PLACE_OF.get(parameter.0 as usize)?;
+    if place == NONE {
+        return None;
     }
-    FoundPlace::At(BytePlace(k as u8))
+    Some(BytePlace(place))
 }
 
-// The parameter of a place, by the table's columns.
-pub fn parameter_of(place: BytePlace) -> FoundParameter
+// The parameter of a place.
+pub fn parameter_of(place: BytePlace) -> Option<Parameter>
     ensures { result ≡ found_parameter (parameter_of place.0) }
 {
-    let k = place.0 as usize;
-    let n = (eight_parameters(k / 8) >> (8 * (k % 8))) % 256;
-    if n == NOWHERE {
-        return FoundParameter::Nothing;
+    let Field(_, parameter, _, _) = *FIELDS.get(place.0 as usize)?;
+    if parameter == NONE {
+        return None;
     }
-    FoundParameter::Of(Parameter(n as u8))
+    Some(Parameter(parameter))
 }
 
-// The range of a place in one number, least + 256 * width; 0 past the table.
-fn range_at(place: BytePlace) -> u64
-    ensures { result ≡ range_at place.0 }
-{
-    let k = place.0 as usize;
-    (four_ranges(k / 4) >> (16 * (k % 4))) % 65536
-}
-
-// A byte lies in the range of its field. Past the table both bounds are 0.
+// A byte lies in the range of its field: it is no further above the least value than the greatest is. Past the table both are 0.
 pub fn in_range(place: BytePlace, b: u8) -> bool
     ensures { result ≡ in_range place.0 b }
 {
-    let range = range_at(place);
-    std::num::wrapping_sub_u8(b, (range % 256) as u8) <= (range / 256) as u8
+    let Field(_, _, least, greatest) = row_of(place);
+    b.wrapping_sub(least) <= greatest.wrapping_sub(least)
 }
 
-// The value of a byte at a place. A field is signed where its range goes on from 255 to 0.
+// The value of a byte at a place. A field is signed where its least value is above its greatest.
 pub fn value_at(place: BytePlace, b: u8) -> i16
     ensures { result ≡ value_at place.0 b }
 {
-    let range = range_at(place);
-    ranges::value_by(255 < range % 256 + range / 256, b)
+    let Field(_, _, least, greatest) = row_of(place);
+    ranges::value_by(greatest < least, b)
 }
 
 // What is told of a parameter's range: an outcome, and the least and greatest value; both 0 when refused.
@@ -154,16 +129,14 @@ pub struct Range {
 pub fn range_of(parameter: Parameter) -> Range
     ensures { result ≡ ranging parameter.0 }
 {
-    let FoundPlace::At(place) = place_of(parameter) else {
+    let Some(place) = place_of(parameter) else {
         return Range {
             outcome: answers::refused(NOT_ALLOWED, 0),
             least: 0,
             greatest: 0,
         };
     };
-    let range = range_at(place);
-    let least = (range % 256) as u8;
-    let greatest = ((range % 256 + range / 256) % 256) as u8;
+    let Field(_, _, least, greatest) = row_of(place);
     Range {
         outcome: answers::done(0),
         least: value_at(place, least),

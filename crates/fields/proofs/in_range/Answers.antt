@@ -1,14 +1,14 @@
--- The number of the byte's range gives its least and its width, and what is left of the byte above the least is compared with the width.
-use Rattle.std.proofs.Common.{sym, arith}
-use Rattle.fields.proofs.Widths.{in_range_number, number_high}
+-- The byte is no further above the least value than the greatest is.
+use Rattle.std.proofs.Common.{sym, refl, arith}
+use Rattle.ranges.specs.Ranges.{in_row}
+use Rattle.ranges.proofs.Between.{between_width}
+use Rattle.fields.specs.Fields.{least_at, greatest_at}
+use Rattle.fields.proofs.Rules.{fields_rule}
 use Rattle.fields.proofs.in_range.Goals as goal
 
-pub overflow_cast-result : goal.overflow_cast-result
-overflow_cast-result c =
-    record { fits = number_high c.args.place.0 _ c.range_at-range.ensures }
-
 pub returns : goal.returns
+unfolding in_row
 returns c =
-    let a = c.args in
-    let above = c.wrapping_sub_u8 in
-    sym (in_range_number a.place.0 a.b above.result _ (omega arith) (omega (arith, above.type_inv)) c.range_at-range.ensures above.ensures.value)
+    let k = c.args.place.0 in
+    let bytes = fields_rule.bytes k in
+    rw c.row_of-least.ensures (sym (between_width (least_at k) (greatest_at k) c.args.b _ _ bytes.0 bytes.1 (omega arith) (omega arith) (omega arith) refl))

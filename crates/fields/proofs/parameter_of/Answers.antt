@@ -1,25 +1,35 @@
--- The part that is taken is the parameter of the place's row, 255 where it has none.
-use Rattle.std.proofs.Common.{◌≡◌, ℕ, ◌+◌, ◌*◌, ◌/◌, ◌%◌, ◌^◌, sym, ap, ◌∙◌, arith}
+-- The row that is read is the place's, whose parameter is 255 where it has none.
+use Rattle.std.proofs.Common.{[], ◌≡◌, ◌≤◌, ◌<◌, sym, ap, ◌∙◌, Some, unwrap_or, arith}
+use Rattle.std.specs.Option.{option_copied}
 use mathlib.Core.Option.{some}
-use Rattle.fields.specs.Fields.{parameter_of}
-use Rattle.fields.specs.code.Columns.{found_parameter, parameter_or_none}
-use Rattle.fields.proofs.Places.{numbered_none, numbered_some, no_parameter_255}
-use Rattle.fields.proofs.parameter_of.Goals.{After-eight_parameters}
+use Rattle.fields.specs.Fields.{fields, parameter_at}
+use Rattle.fields.specs.code.Lookups.{found_parameter, row_at}
+use Rattle.fields.proofs.Listing.{row, row_read}
+use Rattle.fields.proofs.Places.{parameter_past, no_parameter_at, parameter_here}
+use Rattle.fields.proofs.parameter_of.Goals.{After-get}
 use Rattle.fields.proofs.parameter_of.Goals as goal
 
-abbrev number : After-eight_parameters → ℕ
-number p = p.args.place.0
+read : (p : After-get) → unwrap_or (option_copied p.get.result) (row []) ≡ row_at p.args.place.0
+unfolding fields
+read p = p.get.ensures.lookup.4 (omega arith) (row []) ∙ row_read p.args.place.0
 
-its_parameter : (p : After-eight_parameters) → p.eight_parameters.result / 2 ^ (8 * (number p % 8)) % 256 ≡ parameter_or_none (number p)
-its_parameter p =
-    let same : 8 * (number p / 8) + number p % 8 ≡ number p = omega arith in
-    p.eight_parameters.ensures (number p % 8) (omega arith) ∙ ap parameter_or_none same
+pub returns-in_err-parameter : goal.returns-in_err-parameter
+returns-in_err-parameter c =
+    let past : 134 ≤ c.args.place.0 = c.in_err-parameter.ensures.lookup.3 in
+    c.from_residual.ensures ∙ sym (ap found_parameter (parameter_past c.args.place.0 past))
 
-pub returns-then-n-eq-NOWHERE : goal.returns-then-n-eq-NOWHERE
-returns-then-n-eq-NOWHERE c =
-    sym (ap found_parameter (numbered_none (parameter_of (number (goal.at.returns-then-n-eq-NOWHERE c).After-eight_parameters)) (no_parameter_255 (number (goal.at.returns-then-n-eq-NOWHERE c).After-eight_parameters)) (sym (its_parameter (goal.at.returns-then-n-eq-NOWHERE c).After-eight_parameters) ∙ c.if-n-eq-NOWHERE.true)))
+pub returns-then-parameter : goal.returns-then-parameter
+returns-then-parameter c =
+    let k = c.args.place.0 in
+    let was : c.get.result ≡ Some c.in_ok-parameter.field-0 = c.in_ok-parameter.was in
+    let here = rw was at (read (goal.at.returns-then-parameter c).After-get) in
+    sym (ap found_parameter (no_parameter_at k (ap (λ r. r.1) (sym here) ∙ c.if-parameter.true)))
 
 pub returns : goal.returns
 returns c =
-    let found = numbered_some (parameter_of (number (goal.at.returns c).After-eight_parameters)) (λ e. c.if-n-eq-NOWHERE.false (its_parameter (goal.at.returns c).After-eight_parameters ∙ e)) in
-    sym (ap found_parameter (found ∙ ap some (sym (its_parameter (goal.at.returns c).After-eight_parameters))))
+    let k = c.args.place.0 in
+    let was : c.get.result ≡ Some c.in_ok-parameter.field-0 = c.in_ok-parameter.was in
+    let here = rw was at (read (goal.at.returns c).After-get) in
+    let inside : k < 134 = c.in_ok-parameter.ensures.lookup.3.0 in
+    let number : parameter_at k ≡ c.in_ok-parameter.field-0.now.1 = ap (λ r. r.1) (sym here) in
+    sym (ap found_parameter (parameter_here k inside (λ e. c.if-parameter.false (sym number ∙ e)) ∙ ap some number))

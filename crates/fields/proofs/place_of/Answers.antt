@@ -1,25 +1,34 @@
--- The part that is taken is the place that the table's search finds, 255 where it finds none.
-use Rattle.std.proofs.Common.{◌≡◌, ℕ, ◌+◌, ◌*◌, ◌/◌, ◌%◌, ◌^◌, sym, ap, ◌∙◌, arith}
+-- The byte that is read is the place that the table's search finds, 255 where it finds none.
+use Rattle.std.proofs.Common.{◌≡◌, sym, ap, ◌∙◌, None, Some, unwrap_or, arith}
+use Rattle.std.specs.Option.{option_copied}
 use mathlib.Core.Option.{some}
-use Rattle.fields.specs.Fields.{place_of}
-use Rattle.fields.specs.code.Columns.{found_place, place_or_none}
-use Rattle.fields.proofs.Places.{numbered_none, numbered_some, no_place_255}
-use Rattle.fields.proofs.place_of.Goals.{After-eight_places}
+use Rattle.fields.specs.Fields.{fields, place_of, search_from}
+use Rattle.fields.specs.code.Lookups.{found_place, or_none}
+use Rattle.fields.proofs.Places.{place_read, numbered_none, numbered_some, no_place_255}
+use Rattle.fields.proofs.place_of.Goals.{After-get}
 use Rattle.fields.proofs.place_of.Goals as goal
 
-abbrev number : After-eight_places → ℕ
-number p = p.args.parameter.0
+read : (p : After-get) → unwrap_or (option_copied p.get.result) 255 ≡ or_none (place_of p.args.parameter.0)
+unfolding fields place_of search_from
+read p = p.get.ensures.lookup.4 (omega arith) 255 ∙ place_read p.args.parameter.0
 
-its_place : (p : After-eight_places) → p.eight_places.result / 2 ^ (8 * (number p % 8)) % 256 ≡ place_or_none (number p)
-its_place p =
-    let same : 8 * (number p / 8) + number p % 8 ≡ number p = omega arith in
-    p.eight_places.ensures (number p % 8) (omega arith) ∙ ap place_or_none same
+pub returns-in_err-place : goal.returns-in_err-place
+returns-in_err-place c =
+    let n = c.args.parameter.0 in
+    let was : c.get.result ≡ None = c.in_err-place.was in
+    let here : or_none (place_of n) ≡ 255 = sym (rw was at (read (goal.at.returns-in_err-place c).After-get)) in
+    c.from_residual.ensures ∙ sym (ap found_place (numbered_none (place_of n) (no_place_255 n) here))
 
-pub returns-then-k-eq-NOWHERE : goal.returns-then-k-eq-NOWHERE
-returns-then-k-eq-NOWHERE c =
-    sym (ap found_place (numbered_none (place_of (number (goal.at.returns-then-k-eq-NOWHERE c).After-eight_places)) (no_place_255 (number (goal.at.returns-then-k-eq-NOWHERE c).After-eight_places)) (sym (its_place (goal.at.returns-then-k-eq-NOWHERE c).After-eight_places) ∙ c.if-k-eq-NOWHERE.true)))
+pub returns-then-place : goal.returns-then-place
+returns-then-place c =
+    let n = c.args.parameter.0 in
+    let was : c.get.result ≡ Some c.in_ok-place.field-0 = c.in_ok-place.was in
+    let here = rw was at (read (goal.at.returns-then-place c).After-get) in
+    sym (ap found_place (numbered_none (place_of n) (no_place_255 n) (sym here ∙ c.if-place.true)))
 
 pub returns : goal.returns
 returns c =
-    let found = numbered_some (place_of (number (goal.at.returns c).After-eight_places)) (λ e. c.if-k-eq-NOWHERE.false (its_place (goal.at.returns c).After-eight_places ∙ e)) in
-    sym (ap found_place (found ∙ ap some (sym (its_place (goal.at.returns c).After-eight_places))))
+    let n = c.args.parameter.0 in
+    let was : c.get.result ≡ Some c.in_ok-place.field-0 = c.in_ok-place.was in
+    let here = rw was at (read (goal.at.returns c).After-get) in
+    sym (ap found_place (numbered_some (place_of n) (λ e. c.if-place.false (here ∙ e)) ∙ ap some (sym here)))

@@ -1,9 +1,8 @@
--- Where the number has a place, both bounds of its field are shown as its values.
+-- Where the number has a place, both bounds of its field are told as its values.
 use Rattle.std.proofs.Common.{to_z-of_z}
 use Rattle.fields.specs.Fields.{place_of}
 use Rattle.fields.specs.Parameters.{ranging}
 use Rattle.fields.proofs.Places.{found_there, found_nowhere}
-use Rattle.fields.proofs.Widths.{greatest_number}
 use Rattle.fields.proofs.range_of.Goals as goal
 
 pub returns-in_default : goal.returns-in_default
@@ -17,9 +16,8 @@ pub returns : goal.returns
 unfolding ranging
 returns c =
     let n = c.args.parameter.0 in
-    let k = c.in-At.place.0 in
-    let there = found_there (place_of n) c.place_of.result c.in-At.place c.in-At.is c.place_of.ensures in
-    let both = greatest_number k c.range_at-range.result c.range_at-range.ensures in
+    let k = c.in-Some.place.0 in
+    let there = found_there (place_of n) c.place_of.result c.in-Some.place c.in-Some.is c.place_of.ensures in
     rw (
       there,
       c.done.ensures,
@@ -27,6 +25,5 @@ returns c =
       to_z-of_z (record { sfits = c.value_at-2.type_inv }),
       c.value_at.ensures,
       c.value_at-2.ensures,
-      both.1,
-      both.0,
+      c.row_of-least.ensures,
     )
