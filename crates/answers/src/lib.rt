@@ -55,7 +55,7 @@ const LAST: usize = 0xFFFF_FFFF_FFFF_FFFF;
 // An answer and its detail; with 11 also the value that was found, with its sign, and 0 with every other answer. In this order it has
 // sixteen bytes, which two registers take.
 #[repr(C)]
-#[derive(Clone, Copy)]
+#[derive(Clone, Copy, Debug, PartialEq, Eq)]
 pub struct Outcome {
     pub answer: u8,
     pub value: i16,
@@ -65,7 +65,7 @@ pub struct Outcome {
 // An outcome, and the place of what it refuses: the number of a bank's patch, where a message or a record of a unit's file starts; 0 where it
 // is about no place.
 #[repr(C)]
-#[derive(Clone, Copy)]
+#[derive(Clone, Copy, Debug, PartialEq, Eq)]
 pub struct Placed {
     pub outcome: Outcome,
     pub place: usize,

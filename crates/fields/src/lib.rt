@@ -6,11 +6,11 @@ mod rows;
 ghost use Rattle.std.specs.Prelude.{◌≡◌};
 ghost use Rattle.fields.specs.Fields.{least_at, greatest_at, in_range, value_at, place_of, parameter_of};
 ghost use Rattle.fields.specs.Parameters.{ranging};
-ghost use Rattle.fields.specs.code.Lookups.{row_at, found_place, found_parameter};
+ghost use Rattle.fields.specs.code.Lookups.{row_at, found_place, found_parameter, told_range};
 
 use crate::rows::{NONE, PLACE_OF, R0, R26, R104, R105, R106};
 pub use crate::rows::{FIELDS, GREATEST, LEAST};
-use answers::{NOT_ALLOWED, Outcome};
+use answers::{Outcome, Refusal};
 
 // A row: a byte place, its parameter number, its least and its greatest value. Values are bytes as stored: a least value above the
 // greatest is that of a signed field, 0xC0 for -64, 0xE0 for -32.
@@ -116,30 +116,49 @@ pub fn value_at(place: BytePlace, b: u8) -> i16
     ranges::value_by(greatest < least, b)
 }
 
-// What is told of a parameter's range: an outcome, and the least and greatest value; both 0 when refused.
+// The least and the greatest value of a parameter, with their signs.
+#[derive(Clone, Copy, Debug, PartialEq, Eq)]
+pub struct Bounds {
+    pub least: i16,
+    pub greatest: i16,
+}
+
+// What C is told of them: an outcome, and the least and greatest value; both 0 when refused.
 #[repr(C)]
-#[derive(Clone, Copy)]
+#[derive(Clone, Copy, Debug, PartialEq, Eq)]
 pub struct Range {
     pub outcome: Outcome,
     pub least: i16,
     pub greatest: i16,
 }
 
-// The least and the greatest value of a parameter, with their signs: 8 for a number that is no parameter's.
-pub fn range_of(parameter: Parameter) -> Range
-    ensures { result ≡ ranging parameter.0 }
+impl From<Result<Bounds, Refusal>> for Range {
+    ghost from_gives = { λ r range. range ≡ told_range r };
+
+    fn from(answer: Result<Bounds, Refusal>) -> Range {
+        match answer {
+            Ok(bounds) => Range {
+                outcome: answers::done(0),
+                least: bounds.least,
+                greatest: bounds.greatest,
+            },
+            Err(refusal) => Range {
+                outcome: refusal.into(),
+                least: 0,
+                greatest: 0,
+            },
+        }
+    }
+}
+
+// The bounds of a parameter: 8 for a number that is no parameter's.
+pub fn range_of(parameter: Parameter) -> Result<Bounds, Refusal>
+    ensures { told_range result ≡ ranging parameter.0 }
 {
-    let Some(place) = place_of(parameter) else {
-        return Range {
-            outcome: answers::refused(NOT_ALLOWED, 0),
-            least: 0,
-            greatest: 0,
-        };
-    };
+    let place = place_of(parameter).ok_or(Refusal::NotAllowed)?;
     let Field(_, _, least, greatest) = row_of(place);
-    Range {
-        outcome: answers::done(0),
+    Ok(Bounds {
         least: value_at(place, least),
         greatest: value_at(place, greatest),
-    }
+    })
 }

@@ -1,11 +1,17 @@
 -- What the lookups answer, as the code's types.
-use Rattle.std.specs.Prelude.{ℕ, take, drop, Option as Maybe, Some, None}
+use Rattle.std.specs.Prelude.{ℕ, take, drop, Option as Maybe, Some, None, Result, Ok, Err, pos}
 use Rattle.std.proofs.Math.Option.{Option, none, some}
+use Rattle.answers.specs.declared.Refusal.{Refusal}
+use Rattle.answers.specs.Table.{outcome}
+use Rattle.answers.specs.Refusals.{outcome_by}
 use Rattle.ranges.specs.Ranges.{Table}
 use Rattle.fields.specs.Fields.{fields, place_at, parameter_at, least_at, greatest_at}
 use Rattle.fields.specs.declared.Field.{Field}
+use Rattle.fields.specs.Parameters.{range}
 use Rattle.fields.specs.declared.BytePlace.{BytePlace}
+use Rattle.fields.specs.declared.Bounds.{Bounds}
 use Rattle.fields.specs.declared.Parameter.{Parameter}
+use Rattle.fields.specs.declared.Range.{Range}
 
 -- The row of a place.
 abbrev pub row_at : ℕ → Field
@@ -18,6 +24,11 @@ found_place none = None
 abbrev pub found_parameter : Option ℕ → Maybe Parameter
 found_parameter (some n) = Some (record { 0 = n })
 found_parameter none = None
+
+-- The bounds of a parameter as they are told, both 0 when refused.
+abbrev pub told_range : Result Bounds Refusal → Range
+told_range (Ok b) = range (outcome 0 0) b.least b.greatest
+told_range (Err r) = range (outcome_by r) (pos 0) (pos 0)
 
 -- The rows of bus 0.
 abbrev pub bus_table : Table
