@@ -9,13 +9,9 @@ ghost use Rattle.answers.specs.Table.{row_found};
 ghost use Rattle.ranges.specs.code.Found.{found_at};
 ghost use Rattle.fields.specs.Fields.{size};
 ghost use Rattle.patch.specs.Patch.{first_out, first_half, half_used, field_rows, patch_rows, not_held, holding};
-ghost use Rattle.patch.specs.code.Passes.{InRange};
 
 use answers::{DONE, HALF_USED, NOT_ALLOWED, Outcome, WRONG_LENGTH};
-use fields::columns::{LEAST, WIDTH};
-use fields::{
-    BUSES, BytePlace, DESTINATION_AT, FoundPlace, NAME, NAME_SIZE, PLACES, Parameter, SOURCE_AT,
-};
+use fields::{BUSES, BytePlace, DESTINATION_AT, PLACES, Parameter, SOURCE_AT};
 use ranges::Failed;
 
 // How many bytes a patch has.
@@ -32,64 +28,24 @@ pub fn half_used(source: u8, destination: u8) -> bool
     }
 }
 
-// `true` only where the name's bytes, which go from 0 on, lie in their ranges: without a branch, so that they are seen at once. The callers
-// of this and of the passes below have tested the length.
-fn name_in_range(p: &[u8]) -> bool
-    requires { length p.now ≡ size }
-    ensures { result ≡ true → InRange 0 8 p.now }
-{
-    let mut out: u8 = 0;
-    let mut k: usize = 0;
-    while k < NAME_SIZE {
-        if NAME.3 < p[k] {
-            out = 1;
-            k += 1;
-        } else {
-            k += 1;
-        }
-    }
-    out == 0
-}
-
-// The same of the bytes behind the name, sixteen at once: none is further above its least value than its width. The last sixteen
-// begin before the others end, so that they are sixteen too.
-fn rest_in_range(p: &[u8]) -> bool
-    requires { length p.now ≡ size }
-    ensures { result ≡ true → InRange 8 size p.now }
-{
-    let least = LEAST;
-    let width = WIDTH;
-    let mut out: u8 = 0;
-    let mut i: usize = NAME_SIZE;
-    while i < 120 {
-        if width[i] < std::num::wrapping_sub_u8(p[i], least[i]) {
-            out = 1;
-            i += 1;
-        } else {
-            i += 1;
-        }
-    }
-    i = 118;
-    while i < SIZE {
-        if width[i] < std::num::wrapping_sub_u8(p[i], least[i]) {
-            out = 1;
-            i += 1;
-        } else {
-            i += 1;
-        }
-    }
-    out == 0
-}
-
-// `true` only where every byte lies in the range of its field.
+// `true` only where every byte lies in the range of its field: without a branch, so that sixteen are seen at once. The last sixteen begin
+// before the others end, so that they are sixteen too. The callers of this and of the passes below have tested the length.
 fn all_in_range(p: &[u8]) -> bool
     requires { length p.now ≡ size }
     ensures { result ≡ true → first_out p.now ≡ none }
 {
-    if !name_in_range(p) {
-        return false;
+    let mut out = false;
+    for k in 0..SIZE / 16 * 16 {
+        if !fields::in_range(BytePlace(k as u8), p[k]) {
+            out = true;
+        }
     }
-    rest_in_range(p)
+    for k in SIZE - 16..SIZE {
+        if !fields::in_range(BytePlace(k as u8), p[k]) {
+            out = true;
+        }
+    }
+    !out
 }
 
 // 11 with the lowest place out of range and the value found there; done with detail 0. Its caller has tested the length.
@@ -201,7 +157,7 @@ fn not_held(outcome: Outcome) -> Held
 pub fn value_of(p: &[u8], parameter: Parameter) -> Held
     ensures { result ≡ holding parameter.0 p.now }
 {
-    let FoundPlace::At(place) = fields::place_of(parameter) else {
+    let Some(place) = fields::place_of(parameter) else {
         return not_held(answers::refused(NOT_ALLOWED, 0));
     };
     let tested = test(p);
