@@ -3,3 +3,4 @@ pub mod Rows
 pub mod Effects
 pub mod Copied
 pub mod Signed
+pub mod Refusals

@@ -5,7 +5,9 @@ use lib.ListN.{get_or-eq_default}
 use borrow.Author.Tests.{lt-leb}
 use Rattle.std.specs.List.{range_with_len}
 use Rattle.std.proofs.lemmas.List.FromFn.{get_or-map-range_with_len}
-use Rattle.std.specs.Prelude.{Option as Maybe, Some, None}
+use Rattle.std.specs.Prelude.{Option as Maybe, Some, None, Result, Ok, Err, ok_or}
+use Rattle.answers.specs.declared.Refusal.{Refusal}
+use Rattle.answers.specs.declared.Refusal.TheVariants.{NotAllowed}
 use Rattle.std.proofs.lemmas.Option.{none-some, same_Some}
 use Rattle.fields.specs.Fields.{place_of, parameter_of, parameter_at, size}
 use Rattle.fields.specs.declared.BytePlace.{BytePlace}
@@ -21,6 +23,22 @@ found_there (some k) f r e q = ap some (ap (λ (p : BytePlace). p.0) (same_Some 
 pub found_nowhere : (o : Option ℕ) (f : Maybe BytePlace) → f ≡ None → f ≡ found_place o → o ≡ none
 found_nowhere none f e q = refl
 found_nowhere (some k) f e q = absurd (none-some (record { 0 = k }) (sym e ∙ q))
+
+-- A lookup that is refused with 8 where it finds nothing.
+module _ (o : Option ℕ) (f : Maybe BytePlace) (r : Result BytePlace Refusal) (e : f ≡ found_place o) (q : r ≡ ok_or f NotAllowed) where
+  pub place_refused : (x : Refusal) → r ≡ Err x → (o ≡ none) × (x ≡ NotAllowed)
+  place_refused x w = go o (rw e at q)
+    where
+      go : (o : Option ℕ) → r ≡ ok_or (found_place o) NotAllowed → (o ≡ none) × (x ≡ NotAllowed)
+      go none k = (refl, cc)
+      go (some n) k = cc
+
+  pub place_given : (x : BytePlace) → r ≡ Ok x → o ≡ some x.0
+  place_given x w = go o (rw e at q)
+    where
+      go : (o : Option ℕ) → r ≡ ok_or (found_place o) NotAllowed → o ≡ some x.0
+      go none k = cc
+      go (some n) k = let same : x ≡ record { 0 = n } = cc in rw same
 
 -- What is 255 as one number is none, and what is not is that number.
 pub numbered_none : (o : Option ℕ) → (o ≡ some 255 → ⊥) → or_none o ≡ 255 → o ≡ none

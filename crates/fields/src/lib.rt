@@ -8,8 +8,8 @@ ghost use Rattle.fields.specs.Fields.{least_at, greatest_at, in_range, value_at,
 ghost use Rattle.fields.specs.Parameters.{ranging};
 ghost use Rattle.fields.specs.code.Lookups.{row_at, found_place, found_parameter, told_range};
 
-use crate::rows::{NONE, PLACE_OF, R0, R26, R104, R105, R106};
-pub use crate::rows::{FIELDS, GREATEST, LEAST};
+pub use crate::rows::FIELDS;
+use crate::rows::{GREATEST, LEAST, NONE, PLACE_OF, R26, R104, R105, R106};
 use answers::{Outcome, Refusal};
 
 // A row: a byte place, its parameter number, its least and its greatest value. Values are bytes as stored: a least value above the
@@ -22,9 +22,6 @@ pub const PLACES: usize = 134;
 
 // The name's bytes come first.
 pub const NAME_SIZE: usize = 8;
-
-// Their row: all eight have the same range.
-pub const NAME: Field = R0;
 
 // The buses come last, three bytes each.
 pub const BUSES: usize = 10;
@@ -104,8 +101,11 @@ pub fn parameter_of(place: BytePlace) -> Option<Parameter>
 pub fn in_range(place: BytePlace, b: u8) -> bool
     ensures { result ≡ in_range place.0 b }
 {
-    let Field(_, _, least, greatest) = row_of(place);
-    b.wrapping_sub(least) <= greatest.wrapping_sub(least)
+    let k = place.0 as usize;
+    if PLACES <= k {
+        return b == 0;
+    }
+    b.wrapping_sub(LEAST[k]) <= GREATEST[k].wrapping_sub(LEAST[k])
 }
 
 // The value of a byte at a place. A field is signed where its least value is above its greatest.

@@ -8,7 +8,7 @@ pub(crate) const NONE: u8 = 255;
 const LAST_DESTINATION: u8 = 32;
 
 // The name.
-pub(crate) const R0: Field = Field(0, NONE, 0, 63);
+const R0: Field = Field(0, NONE, 0, 63);
 
 const R1: Field = Field(1, NONE, 0, 63);
 
@@ -291,8 +291,9 @@ pub static FIELDS: [Field; PLACES] = [
     R129, R130, R131, R132, R133,
 ];
 
-// Two of its columns, for the test of a whole patch: many bytes are compared at once with as many bounds, which have to lie side by side.
-pub static LEAST: [u8; PLACES] = [
+// Two of its columns: where the bytes of a patch are compared many at once, their bounds have to lie side by side. By the rows the test of
+// a patch takes ten times as long.
+pub(crate) static LEAST: [u8; PLACES] = [
     R0.2, R1.2, R2.2, R3.2, R4.2, R5.2, R6.2, R7.2, R8.2, R9.2, R10.2, R11.2, R12.2, R13.2, R14.2,
     R15.2, R16.2, R17.2, R18.2, R19.2, R20.2, R21.2, R22.2, R23.2, R24.2, R25.2, R26.2, R27.2,
     R28.2, R29.2, R30.2, R31.2, R32.2, R33.2, R34.2, R35.2, R36.2, R37.2, R38.2, R39.2, R40.2,
@@ -306,7 +307,7 @@ pub static LEAST: [u8; PLACES] = [
     R129.2, R130.2, R131.2, R132.2, R133.2,
 ];
 
-pub static GREATEST: [u8; PLACES] = [
+pub(crate) static GREATEST: [u8; PLACES] = [
     R0.3, R1.3, R2.3, R3.3, R4.3, R5.3, R6.3, R7.3, R8.3, R9.3, R10.3, R11.3, R12.3, R13.3, R14.3,
     R15.3, R16.3, R17.3, R18.3, R19.3, R20.3, R21.3, R22.3, R23.3, R24.3, R25.3, R26.3, R27.3,
     R28.3, R29.3, R30.3, R31.3, R32.3, R33.3, R34.3, R35.3, R36.3, R37.3, R38.3, R39.3, R40.3,

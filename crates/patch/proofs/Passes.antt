@@ -1,20 +1,14 @@
 -- Passes over the bytes of a patch, byte by byte: what a flag that stays clear has shown so far, and what it has shown at the end.
-use Rattle.std.proofs.Common.{◌≡◌, ℕ, zero, suc, ◌+◌, ◌-◌, ◌*◌, ◌%◌, ◌<◌, ◌≤◌, false, List, length, get_or, refl, ◌∙◌, arith, below_more, le-leb}
+use Rattle.std.proofs.Common.{◌≡◌, ℕ, zero, suc, ◌+◌, ◌-◌, ◌*◌, ◌%◌, ◌<◌, false, List, length, get_or, refl, ◌∙◌, arith, below_more}
 use mathlib.Core.Option.{none}
-use Rattle.ranges.proofs.Passes.{rows_more, rows_in}
+use Rattle.ranges.specs.code.Passes.{InRows}
+use Rattle.ranges.proofs.Passes.{rows_in}
 use Rattle.fields.specs.Fields.{fields}
 use Rattle.patch.specs.Patch.{first_out, half_used, half_from, first_half}
-use Rattle.patch.specs.code.Passes.{InRange}
-use Rattle.fields.proofs.Widths.{leasts, widths, in_range_columns}
 use Rattle.patch.proofs.Steps.{bus_whole, buses_done}
 
--- One byte more, by the columns: it is not further above its least value than its width.
-pub columns_more : (p : List ℕ) (i k r : ℕ) → k < 134 → get_or p k 0 < 256 → r < 256 → (r + get_or leasts k 0) % 256 ≡ get_or p k 0
-    → r ≤ get_or widths k 0 → InRange i k p → InRange i (k + 1) p
-columns_more p i k r h hb hr e l q = rows_more fields p i k q (in_range_columns k (get_or p k 0) r h hb hr e ∙ le-leb r (get_or widths k 0) l)
-
 -- Where every byte of a patch lies in its range, none is out of range.
-pub all_in : (p : List ℕ) → length p ≡ 134 → InRange 0 134 p → first_out p ≡ none
+pub all_in : (p : List ℕ) → length p ≡ 134 → InRows fields 0 134 p → first_out p ≡ none
 all_in p e h = rows_in fields p (rw e h)
 
 -- Of the n bytes from 104 on, those that are a source stand before a bus that is not half used.

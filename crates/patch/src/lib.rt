@@ -2,21 +2,16 @@
 // parameter in one.
 #![tactic(auto)]
 
-ghost use Rattle.std.specs.Prelude.{◌≡◌, true, [], ◌∷◌, length};
+ghost use Rattle.std.specs.Prelude.{◌≡◌, true};
 ghost use Rattle.std.proofs.Math.Option.{none};
 ghost use Rattle.answers.specs.Effect.{tested};
-ghost use Rattle.answers.specs.Table.{row_found};
-ghost use Rattle.ranges.specs.code.Found.{found_at};
-ghost use Rattle.fields.specs.Fields.{size};
-ghost use Rattle.patch.specs.Patch.{first_out, first_half, half_used, field_rows, patch_rows, not_held, holding};
-ghost use Rattle.patch.specs.code.Passes.{InRange};
+ghost use Rattle.answers.specs.Refusals.{told_test};
+ghost use Rattle.ranges.specs.code.Found.{found_at, found_in};
+ghost use Rattle.patch.specs.Patch.{first_out, first_half, half_used, field_rows, patch_rows, holding};
+ghost use Rattle.patch.specs.code.Held.{told_held};
 
-use answers::{DONE, HALF_USED, NOT_ALLOWED, Outcome, WRONG_LENGTH};
-use fields::columns::{LEAST, WIDTH};
-use fields::{
-    BUSES, BytePlace, DESTINATION_AT, FoundPlace, NAME, NAME_SIZE, PLACES, Parameter, SOURCE_AT,
-};
-use ranges::Failed;
+use answers::{Found, Outcome, Refusal};
+use fields::{BUSES, BytePlace, DESTINATION_AT, PLACES, Parameter, SOURCE_AT};
 
 // How many bytes a patch has.
 pub const SIZE: usize = PLACES;
@@ -25,192 +20,132 @@ pub const SIZE: usize = PLACES;
 pub fn half_used(source: u8, destination: u8) -> bool
     ensures { result ≡ half_used source destination }
 {
-    if source == 0 {
-        destination != 0
-    } else {
-        destination == 0
-    }
+    (source == 0) != (destination == 0)
 }
 
-// `true` only where the name's bytes, which go from 0 on, lie in their ranges: without a branch, so that they are seen at once. The callers
-// of this and of the passes below have tested the length.
-fn name_in_range(p: &[u8]) -> bool
-    requires { length p.now ≡ size }
-    ensures { result ≡ true → InRange 0 8 p.now }
-{
-    let mut out: u8 = 0;
-    let mut k: usize = 0;
-    while k < NAME_SIZE {
-        if NAME.3 < p[k] {
-            out = 1;
-            k += 1;
-        } else {
-            k += 1;
-        }
-    }
-    out == 0
-}
-
-// The same of the bytes behind the name, sixteen at once: none is further above its least value than its width. The last sixteen
-// begin before the others end, so that they are sixteen too.
-fn rest_in_range(p: &[u8]) -> bool
-    requires { length p.now ≡ size }
-    ensures { result ≡ true → InRange 8 size p.now }
-{
-    let least = LEAST;
-    let width = WIDTH;
-    let mut out: u8 = 0;
-    let mut i: usize = NAME_SIZE;
-    while i < 120 {
-        if width[i] < std::num::wrapping_sub_u8(p[i], least[i]) {
-            out = 1;
-            i += 1;
-        } else {
-            i += 1;
-        }
-    }
-    i = 118;
-    while i < SIZE {
-        if width[i] < std::num::wrapping_sub_u8(p[i], least[i]) {
-            out = 1;
-            i += 1;
-        } else {
-            i += 1;
-        }
-    }
-    out == 0
-}
-
-// `true` only where every byte lies in the range of its field.
-fn all_in_range(p: &[u8]) -> bool
-    requires { length p.now ≡ size }
+// `true` only where every byte lies in the range of its field: without a way out, so that sixteen are seen at once. The last sixteen begin
+// before the others end, so that they are sixteen too.
+fn all_in_range(p: &[u8; SIZE]) -> bool
     ensures { result ≡ true → first_out p.now ≡ none }
 {
-    if !name_in_range(p) {
-        return false;
+    let mut out = false;
+    for k in 0..SIZE / 16 * 16 {
+        if !fields::in_range(BytePlace(k as u8), p[k]) {
+            out = true;
+        }
     }
-    rest_in_range(p)
+    for k in SIZE - 16..SIZE {
+        if !fields::in_range(BytePlace(k as u8), p[k]) {
+            out = true;
+        }
+    }
+    !out
 }
 
-// 11 with the lowest place out of range and the value found there; done with detail 0. Its caller has tested the length.
-fn first_out(p: &[u8]) -> Outcome
-    requires { length p.now ≡ size }
-    ensures { result ≡ tested (row_found 11 (first_out p.now) ∷ []) }
+// The lowest place out of range and the value found there.
+fn first_out(p: &[u8; SIZE]) -> Option<Found>
+    ensures { result ≡ found_in (first_out p.now) }
 {
     if all_in_range(p) {
-        return answers::done(0);
+        return None;
     }
-    let mut k: usize = 0;
-    while k < SIZE {
-        let b = p[k];
+    for k in 0..SIZE {
         let place = BytePlace(k as u8);
-        if !fields::in_range(place, b) {
-            return answers::out_of_range(k, fields::value_at(place, b));
+        if !fields::in_range(place, p[k]) {
+            return Some(Found {
+                place: k,
+                value: fields::value_at(place, p[k]),
+            });
         }
-        k += 1;
     }
-    answers::done(0)
+    None
 }
 
 // `true` only where no bus is half used. Each of 28 bytes is seen with the second behind it, many at once: every third is a source,
 // with its destination.
-fn buses_whole(p: &[u8]) -> bool
-    requires { length p.now ≡ size }
+fn buses_whole(p: &[u8; SIZE]) -> bool
     ensures { result ≡ true → first_half p.now ≡ none }
 {
-    let mut half: u8 = 0;
-    let mut j: usize = 0;
-    while j < 28 {
-        let source = p[SOURCE_AT + j];
-        let destination = p[DESTINATION_AT + j];
-        if half_used(source, destination) {
+    let mut half = false;
+    for j in 0..3 * BUSES - 2 {
+        if half_used(p[SOURCE_AT + j], p[DESTINATION_AT + j]) {
             if j % 3 == 0 {
-                half = 1;
-                j += 1;
-            } else {
-                j += 1;
+                half = true;
             }
-        } else {
-            j += 1;
         }
     }
-    half == 0
+    !half
 }
 
-// The lowest bus half used. Its caller has tested the length.
-fn first_half(p: &[u8]) -> Failed
-    requires { length p.now ≡ size }
+// The lowest bus half used.
+fn first_half(p: &[u8; SIZE]) -> Option<usize>
     ensures { result ≡ found_at (first_half p.now) }
 {
     if buses_whole(p) {
-        return Failed::Nowhere;
+        return None;
     }
-    let mut b: usize = 0;
-    while b < BUSES {
-        if half_used(p[SOURCE_AT + 3 * b], p[DESTINATION_AT + 3 * b]) {
-            return Failed::At(b);
+    for bus in 0..BUSES {
+        if half_used(p[SOURCE_AT + 3 * bus], p[DESTINATION_AT + 3 * bus]) {
+            return Some(bus);
         }
-        b += 1;
     }
-    Failed::Nowhere
+    None
 }
 
-// The fields of 134 bytes: 11, then 12. Its caller has tested the length.
-fn test_fields(p: &[u8]) -> Outcome
-    requires { length p.now ≡ size }
-    ensures { result ≡ tested (field_rows p.now) }
+// The fields of a patch: 11, then 12.
+fn test_fields(p: &[u8; SIZE]) -> Result<(), Refusal>
+    ensures { told_test result ≡ tested (field_rows p.now) }
 {
-    let out = first_out(p);
-    if out.answer != DONE {
-        return out;
+    if let Some(found) = first_out(p) {
+        return Err(Refusal::OutOfRange(found));
     }
-    let half = first_half(p);
-    if let Failed::At(b) = half {
-        return answers::refused(HALF_USED, b);
+    if let Some(bus) = first_half(p) {
+        return Err(Refusal::HalfUsed(bus));
     }
-    answers::done(0)
+    Ok(())
 }
 
-// The test of a lent patch: 7, then 11 with the lowest place and the value found there, then 12 with the lowest bus; done with
-// detail 0.
-pub fn test(p: &[u8]) -> Outcome
-    ensures { result ≡ tested (patch_rows p.now) }
+// The test of a lent patch: 7, then 11 with the lowest place and the value found there, then 12 with the lowest bus.
+pub fn test(p: &[u8]) -> Result<(), Refusal>
+    ensures { told_test result ≡ tested (patch_rows p.now) }
 {
-    if p.len() != SIZE {
-        return answers::refused(WRONG_LENGTH, 0);
+    match <&[u8; SIZE]>::try_from(p) {
+        Ok(patch) => test_fields(patch),
+        Err(_) => Err(Refusal::WrongLength),
     }
-    test_fields(p)
 }
 
-// What a parameter has in a patch: an outcome, and the value; 0 when refused.
+// What C is told that a parameter has in a patch: an outcome, and the value; 0 when refused.
 #[repr(C)]
-#[derive(Clone, Copy)]
+#[derive(Clone, Copy, Debug, PartialEq, Eq)]
 pub struct Held {
     pub outcome: Outcome,
     pub value: i16,
 }
 
-// A refusal, with no value.
-fn not_held(outcome: Outcome) -> Held
-    ensures { result ≡ not_held outcome }
-{
-    Held { outcome, value: 0 }
+impl From<Result<i16, Refusal>> for Held {
+    ghost from_gives = { λ r held. held ≡ told_held r };
+
+    fn from(answer: Result<i16, Refusal>) -> Held {
+        match answer {
+            Ok(value) => Held {
+                outcome: answers::done(0),
+                value,
+            },
+            Err(refusal) => Held {
+                outcome: refusal.into(),
+                value: 0,
+            },
+        }
+    }
 }
 
 // The value of a parameter in a lent patch, with its sign: 8 for a number that is no parameter's, then the patch's 7, 11 and 12.
-pub fn value_of(p: &[u8], parameter: Parameter) -> Held
-    ensures { result ≡ holding parameter.0 p.now }
+pub fn value_of(p: &[u8], parameter: Parameter) -> Result<i16, Refusal>
+    ensures { told_held result ≡ holding parameter.0 p.now }
 {
-    let FoundPlace::At(place) = fields::place_of(parameter) else {
-        return not_held(answers::refused(NOT_ALLOWED, 0));
-    };
-    let tested = test(p);
-    if tested.answer != DONE {
-        return not_held(tested);
-    }
+    let place = fields::place_of(parameter).ok_or(Refusal::NotAllowed)?;
+    test(p)?;
     let at = place.0 as usize;
-    Held {
-        outcome: answers::done(0),
-        value: fields::value_at(place, p[at]),
-    }
+    Ok(fields::value_at(place, p[at]))
 }

@@ -1,10 +1,7 @@
 -- The flag is set at a source whose bus is half used: where it stays clear, no bus passed is.
-use Rattle.std.proofs.Common.{◌≡◌, ◌-◌, ◌≤◌}
+use Rattle.std.proofs.Common.{◌≡◌, false}
 use Rattle.patch.proofs.Passes.{Whole}
 use Rattle.patch.proofs.buses_whole.Given as goal
 
 abbrev pub invariant-loop-j : goal.invariant-loop-j
-invariant-loop-j l = (l.j ≤ 28) × (l.half ≡ 0 → Whole l.j l.p)
-
-abbrev pub decreases-loop-j : goal.decreases-loop-j
-decreases-loop-j l = 28 - l.j
+invariant-loop-j l = l.half ≡ false → Whole l.j l.p
