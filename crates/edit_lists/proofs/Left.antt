@@ -7,11 +7,10 @@ use Prim.Native.Nat.{ℕ, suc, ◌+◌, ◌-◌, ◌/◌, ◌≤◌, ◌<◌}
 use native.Mathlib.Omega.{arith}
 use lib.ListN.{length, length-append}
 use borrow.Author.Tests.{lt-ltb, le-ltb}
+use Rattle.std.specs.Prelude.{Option, Some, None}
 use Rattle.fields.specs.declared.Parameter.{Parameter}
-use Rattle.fields.specs.declared.FoundParameter.{FoundParameter}
-use Rattle.fields.specs.declared.FoundParameter.TheVariants.{Nothing, Of}
 use Rattle.fields.specs.Fields.{parameter_at, parameter_of}
-use Rattle.fields.specs.code.Columns.{found_parameter}
+use Rattle.fields.specs.code.Lookups.{found_parameter}
 use Rattle.fields.proofs.Rules.{parameter_known}
 use Rattle.patch.specs.Patch.{source_at}
 use Rattle.edit_lists.specs.Lists.{message_for, list_bytes}
@@ -47,14 +46,14 @@ part_end k (l, inl h) = rw (width_field k h) (omega arith)
 part_end k (l, inr h) = let e = h.0 in rw (width_bus k (omega arith)) (omega (arith, h.1))
 
 -- A place from 8 to 103 has a parameter, and the code finds it.
-module _ (k : ℕ) (f : FoundParameter) (e : f ≡ found_parameter (parameter_of k)) (l : 8 ≤ k) (h : k < 104) where
-  found : f ≡ Of (record { 0 = parameter_at k })
+module _ (k : ℕ) (f : Option Parameter) (e : f ≡ found_parameter (parameter_of k)) (l : 8 ≤ k) (h : k < 104) where
+  found : f ≡ Some (record { 0 = parameter_at k })
   found = e ∙ ap found_parameter (parameter_known k l h)
 
-  pub found_number : (n : Parameter) → f ≡ Of n → n.0 ≡ parameter_at k
+  pub found_number : (n : Parameter) → f ≡ Some n → n.0 ≡ parameter_at k
   found_number n t = let q = found in cc
 
-  pub found_some : f ≡ Nothing → ⊥
+  pub found_some : f ≡ None → ⊥
   found_some t = let q = found in let z : ◌≡◌ {A = ℕ} 0 1 = cc in omega arith
 
 -- A bus is reached behind the last parameter and behind a bus that is not the last.

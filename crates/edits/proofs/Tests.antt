@@ -19,7 +19,7 @@ use Rattle.ranges.specs.Ranges.{out_from}
 use Rattle.ranges.proofs.Runs.{one_in, one_more_in, none_out, further, out_further}
 use Rattle.fields.specs.Fields.{fields, in_range, place_of}
 use Rattle.patch.specs.Patch.{half_used, length_row, patch_rows}
-use Rattle.fields.specs.code.Columns.{bus_table}
+use Rattle.fields.specs.code.Lookups.{bus_table}
 use Rattle.fields.proofs.Buses.{bus_rows_hold}
 use Rattle.edits.specs.Edits.{extended, stored_for, out_at, edit_rows, bus_rows, with_byte, with_bus, applying, applying_bus}
 use Rattle.edits.specs.code.Storing.{editing, storing, storing_bus, Stored}

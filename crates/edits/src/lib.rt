@@ -9,8 +9,7 @@ ghost use Rattle.edits.specs.code.Storing.{storing, storing_bus, Stored};
 
 use answers::{DONE, HALF_USED, NOT_ALLOWED, Outcome};
 use fields::{
-    AMOUNT_AT, BUS, BUSES, BytePlace, DESTINATION_AT, FoundPlace, NOT_EXTENDED, PLACES, Parameter,
-    SOURCE_AT,
+    AMOUNT_AT, BUS, BUSES, BytePlace, DESTINATION_AT, NOT_EXTENDED, PLACES, Parameter, SOURCE_AT,
 };
 
 const LAST_BUS: u8 = BUSES as u8 - 1;
@@ -68,8 +67,8 @@ pub fn test_edit(parameter: Parameter, value: u8) -> Outcome
 {
     let found = fields::place_of(parameter);
     match found {
-        FoundPlace::At(place) => test_value(place, parameter, value),
-        FoundPlace::Nothing => answers::refused(NOT_ALLOWED, 0),
+        Some(place) => test_value(place, parameter, value),
+        None => answers::refused(NOT_ALLOWED, 0),
     }
 }
 
@@ -109,7 +108,7 @@ pub fn test_bus_edit(bus: u8, source: u8, amount: u8, destination: u8) -> Outcom
 pub fn apply_edit(p: &mut [u8], parameter: Parameter, value: u8) -> Outcome
     ensures { Gives (applying parameter.0 value p.old) result p.new }
 {
-    let FoundPlace::At(place) = fields::place_of(parameter) else {
+    let Some(place) = fields::place_of(parameter) else {
         return answers::refused(NOT_ALLOWED, 0);
     };
     let at = place.0 as usize;
@@ -148,7 +147,7 @@ pub fn apply_bus_edit(p: &mut [u8], bus: u8, source: u8, amount: u8, destination
 pub fn store_edit(p: &mut [u8], parameter: Parameter, value: u8) -> bool
     ensures { Stored (storing parameter.0 value p.old) result p.new }
 {
-    let FoundPlace::At(place) = fields::place_of(parameter) else {
+    let Some(place) = fields::place_of(parameter) else {
         return false;
     };
     if !allowed(place, parameter, value) {

@@ -10,7 +10,7 @@ ghost use Rattle.edits.specs.Edits.{applying, applying_bus};
 ghost use Rattle.messages.specs.declared.kinds.Kind.TheVariants.{Dump as of_dump, Short as of_short};
 ghost use Rattle.messages.specs.Kinds.{single_patch, split_patch, master_parameters, edit_buffer, remote_edit, bus_edit};
 ghost use Rattle.messages.specs.Kinds.{request_data, group_mode, set_bank, unlock_bank, store_edit_buffer};
-ghost use Rattle.fields.specs.code.Columns.{or_none};
+ghost use Rattle.fields.specs.code.Lookups.{or_none};
 ghost use Rattle.fields.specs.Fields.{place_of, parameter_of};
 ghost use Rattle.fields.specs.Parameters.{ranging};
 ghost use Rattle.names.specs.Names.{naming, showing};
@@ -27,7 +27,7 @@ ghost use Rattle.writing.specs.Writing.{writing, writing_bank};
 
 use answers::Outcome;
 use cable::{Cable, Fed};
-use fields::{BytePlace, FoundParameter, FoundPlace, Parameter, Range};
+use fields::{BytePlace, Parameter, Range};
 use patch::Held;
 use reading::listing::Listed;
 use reading::recording::Reading;
@@ -123,8 +123,8 @@ pub extern "C" fn matrix_place_of(parameter: u8) -> u8
     ensures { result ≡ or_none (place_of parameter) }
 {
     match fields::place_of(Parameter(parameter)) {
-        FoundPlace::At(place) => place.0,
-        FoundPlace::Nothing => NONE,
+        Some(place) => place.0,
+        None => NONE,
     }
 }
 
@@ -134,8 +134,8 @@ pub extern "C" fn matrix_parameter_of(place: u8) -> u8
     ensures { result ≡ or_none (parameter_of place) }
 {
     match fields::parameter_of(BytePlace(place)) {
-        FoundParameter::Of(parameter) => parameter.0,
-        FoundParameter::Nothing => NONE,
+        Some(parameter) => parameter.0,
+        None => NONE,
     }
 }
 

@@ -16,7 +16,7 @@ ghost use Rattle.plan.specs.Said.{shown_at, parameter_line, bus_values, bus_line
 ghost use Rattle.plan.specs.code.Written.{least, room_most, Says};
 
 use answers::{DONE, NO_MESSAGE, Outcome};
-use fields::{AMOUNT_AT, BytePlace, DESTINATION_AT, FoundParameter, NAME_SIZE, SOURCE_AT};
+use fields::{AMOUNT_AT, BytePlace, DESTINATION_AT, NAME_SIZE, SOURCE_AT};
 use frames::END;
 use listing::MOST;
 use messages::kinds::{EditBuffer, PATCH, SinglePatch};
@@ -149,7 +149,7 @@ fn put_parameter(room: &mut [u8], at: usize, a: &[u8], b: &[u8], k: usize) -> us
     requires { (length a.now ≡ size) × (length b.now ≡ size) × (8 ≤ k) × (k < 104) }
     ensures { Puts (parameter_line a.now b.now k) room.old at room.new result }
 {
-    let FoundParameter::Of(parameter) = fields::parameter_of(BytePlace(k as u8)) else {
+    let Some(parameter) = fields::parameter_of(BytePlace(k as u8)) else {
         return at;
     };
     let place = text::put_number(room, at, k, b' ');

@@ -9,7 +9,7 @@ ghost use Rattle.edit_lists.specs.Plan.{width_of, same_at, reaching, planning};
 ghost use Rattle.edit_lists.specs.code.Left.{Part, edits_left, length_at};
 
 use answers::{DONE, NO_ROOM, Outcome};
-use fields::{BytePlace, FoundParameter, NAME_SIZE, SOURCE_AT};
+use fields::{BytePlace, NAME_SIZE, SOURCE_AT};
 use frames::{END, START};
 use messages::kinds::{BusEdit, DEVICE, MAKER, PATCH, RemoteEdit};
 
@@ -104,7 +104,7 @@ fn put_edit(k: usize, b: &[u8], out: &mut [u8])
     ensures { out.new ≡ at_start (message_for (reaching b.now k)) out.old }
 {
     if k < SOURCE_AT {
-        if let FoundParameter::Of(parameter) = fields::parameter_of(BytePlace(k as u8)) {
+        if let Some(parameter) = fields::parameter_of(BytePlace(k as u8)) {
             put_remote(parameter.0, b[k] % 128, out);
         }
         return;

@@ -5,17 +5,17 @@ use mathlib.Core.Option.{Option, none, some}
 use Prim.Native.Nat.{ℕ, suc, ◌+◌, ◌-◌, ◌<◌}
 use native.Mathlib.Numerals.{add-one}
 use native.Mathlib.Omega.{arith}
+use Rattle.std.specs.Prelude.{Option as Maybe, Some, None}
 use Rattle.text.specs.Text.{ascii, followed}
-use Rattle.fields.specs.code.Columns.{found_parameter}
-use Rattle.fields.specs.declared.FoundParameter.{FoundParameter}
-use Rattle.fields.specs.declared.FoundParameter.TheVariants.{Of, Nothing}
+use Rattle.fields.specs.code.Lookups.{found_parameter}
+use Rattle.fields.specs.declared.Parameter.{Parameter}
 use Rattle.table_main.specs.Table.{parameter_text, table_row, table_rows}
 
-abbrev pub found_text : FoundParameter → List ℕ
-found_text (Of p) = followed p.0 0x20
-found_text Nothing = ascii "- "
+abbrev pub found_text : Maybe Parameter → List ℕ
+found_text (Some p) = followed p.0 0x20
+found_text None = ascii "- "
 
-pub text_found : (o : Option ℕ) (f : FoundParameter) → f ≡ found_parameter o → parameter_text o ≡ found_text f
+pub text_found : (o : Option ℕ) (f : Maybe Parameter) → f ≡ found_parameter o → parameter_text o ≡ found_text f
 text_found o f e = rw e (by_answer o)
   where
     by_answer : (o : Option ℕ) → parameter_text o ≡ found_text (found_parameter o)

@@ -6,7 +6,7 @@ ghost use Rattle.text.specs.Text.{signed, IsPrefixLen, Puts};
 ghost use Rattle.fields.specs.Fields.{value_at, parameter_of};
 ghost use Rattle.table_main.specs.Table.{parameter_text, table_row, table_text};
 
-use fields::{BytePlace, FoundParameter};
+use fields::BytePlace;
 use std::io;
 use std::io::Write;
 
@@ -18,7 +18,7 @@ fn put_parameter(room: &mut [u8], at: usize, place: u8) -> usize
     ensures { Puts (parameter_text (parameter_of place)) room.old at room.new result }
 {
     let found = fields::parameter_of(BytePlace(place));
-    if let FoundParameter::Of(parameter) = found {
+    if let Some(parameter) = found {
         return text::put_number(room, at, parameter.0 as usize, b' ');
     }
     text::put(room, at, b"- ")

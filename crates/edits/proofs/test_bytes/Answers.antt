@@ -15,7 +15,7 @@ use Rattle.ranges.specs.Ranges.{out_from}
 use Rattle.ranges.proofs.Found.{told_some, told_none}
 use Rattle.ranges.proofs.Runs.{further, lowest_out}
 use Rattle.fields.specs.Fields.{fields}
-use Rattle.fields.specs.code.Columns.{bus_table}
+use Rattle.fields.specs.code.Lookups.{bus_table}
 use Rattle.patch.specs.Patch.{half_used}
 use Rattle.edits.specs.Edits.{byte_rows}
 use Rattle.edits.proofs.Tests.{bus_out}

@@ -8,15 +8,15 @@ use Rattle.fields.proofs.Places.{found_there, found_nowhere}
 use Rattle.edits.proofs.Tests.{rows_at, rows_nowhere}
 use Rattle.edits.proofs.test_edit.Goals as goal
 
-pub returns-in-At : goal.returns-in-At
-returns-in-At c =
+pub returns-in-Some : goal.returns-in-Some
+returns-in-Some c =
     let k = c.args in
     let l = c.place_of-found in
-    let e = found_there (place_of k.parameter.0) l.result c.in-At.place c.in-At.is l.ensures in
+    let e = found_there (place_of k.parameter.0) l.result c.in-Some.place c.in-Some.is l.ensures in
     c.test_value.ensures ∙ sym (ap (λ (rows : List Row). tested rows) (rows_at k.parameter.0 k.value _ e))
 
-pub returns-in-Nothing : goal.returns-in-Nothing
-returns-in-Nothing c =
+pub returns-in-None : goal.returns-in-None
+returns-in-None c =
     let k = c.args in
-    let e = found_nowhere (place_of k.parameter.0) c.place_of-found.result c.in-Nothing.is c.place_of-found.ensures in
+    let e = found_nowhere (place_of k.parameter.0) c.place_of-found.result c.in-None.is c.place_of-found.ensures in
     c.refused.ensures ∙ sym (ap (λ (rows : List Row). tested rows) (rows_nowhere k.parameter.0 k.value e))

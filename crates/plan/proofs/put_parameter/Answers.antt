@@ -13,7 +13,7 @@ pub returns : goal.returns
 unfolding ascii
 returns c =
     let f = c.parameter_of in
-    let same = found_number c.args.k f.result f.ensures c.requires.2 c.requires.3 c.in-Of.parameter c.in-Of.is in
+    let same = found_number c.args.k f.result f.ensures c.requires.2 c.requires.3 c.in-Some.parameter c.in-Some.is in
     puts_then c.put_number-place.ensures
     (puts_then c.put-word.ensures
     (puts_then (rw same at c.put_number-number.ensures) (puts_then c.put_value-before.ensures c.put_value.ensures)))

@@ -13,10 +13,10 @@ pub put_remote-requires : goal.put_remote-requires
 put_remote-requires c =
     rw (lt-ltb c.args.k 104 c.if-k-lt-SOURCE_AT.true) at c.requires.2
 
-pub returns-in-Of : goal.returns-in-Of
-returns-in-Of c =
+pub returns-in-Some : goal.returns-in-Some
+returns-in-Some c =
     let k = c.args.k in
-    let n = found_number k c.parameter_of.result c.parameter_of.ensures c.requires.0.0 c.if-k-lt-SOURCE_AT.true c.in-Of.parameter c.in-Of.is in
+    let n = found_number k c.parameter_of.result c.parameter_of.ensures c.requires.0.0 c.if-k-lt-SOURCE_AT.true c.in-Some.parameter c.in-Some.is in
     rw (lt-ltb k 104 c.if-k-lt-SOURCE_AT.true) (rw n at c.put_remote.ensures)
 
 pub returns-in_default : goal.returns-in_default
