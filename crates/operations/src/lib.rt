@@ -14,6 +14,21 @@ pub enum Operation {
     Store,
 }
 
+impl Operation {
+    // How many bytes it has.
+    pub fn count(self) -> usize
+        ensures { result ≡ bytes_of self }
+    {
+        match self {
+            Operation::Request => 2,
+            Operation::Group => 2,
+            Operation::Bank => 1,
+            Operation::Unlock => 0,
+            Operation::Store => 3,
+        }
+    }
+}
+
 // The last patch of a bank, the last bank, the last ID of a unit in a group, and the ID that is for any unit of it.
 pub const LAST_PATCH: u8 = 99;
 
@@ -36,19 +51,6 @@ const EDIT_BUFFER: u8 = 4;
 const FEWEST_UNITS: u8 = 2;
 
 const MOST_UNITS: u8 = 6;
-
-// How many bytes an operation has.
-pub fn count_of(operation: Operation) -> usize
-    ensures { result ≡ bytes_of operation }
-{
-    match operation {
-        Operation::Request => 2,
-        Operation::Group => 2,
-        Operation::Bank => 1,
-        Operation::Unlock => 0,
-        Operation::Store => 3,
-    }
-}
 
 // A patch has a number; everything else that can be requested has 0 in its place.
 #[tactic(auto, unfolding(crate::specs::Operations::allowed))]
