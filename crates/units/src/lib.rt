@@ -50,16 +50,20 @@ impl Act {
     fn step(self, report: Report) -> Step
         ensures { result ≡ told report (done_by self) }
     {
-        let (count, sent) = match self.sent {
-            Some(message) => (SENT as u8, message),
-            None => (0, [0; SENT]),
-        };
-        Step {
+        let silent = Step {
             report,
             unit: self.unit,
             meant: self.meant,
-            count,
-            sent,
+            count: 0,
+            sent: [0; SENT],
+        };
+        match self.sent {
+            Some(sent) => Step {
+                count: SENT as u8,
+                sent,
+                ..silent
+            },
+            None => silent,
         }
     }
 }
