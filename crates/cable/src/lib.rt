@@ -18,7 +18,7 @@ ghost use Rattle.cable.specs.code.Steps.{record_in, size_told, ended_as, open_as
 use crate::room::{append, clear, least_of, put_all};
 use answers::{CUT, DONE, INTERRUPTED, NO_MESSAGE, Outcome, TOO_MANY};
 use judging::Judged;
-use messages::kinds::{MasterParameters, kind_of, packed_size};
+use messages::kinds::{MasterParameters, kind_of};
 use reading::recording::Reading;
 use reading::walking::Report;
 
@@ -126,7 +126,7 @@ fn size_told(outcome: Outcome) -> usize
     if outcome.answer != DONE {
         return 0;
     }
-    packed_size(kind_of((outcome.detail % 256) as u8))
+    kind_of((outcome.detail % 256) as u8).packed_size()
 }
 
 // A message has ended, at `end`: its report, and the count of its packed bytes, which stand in the room.

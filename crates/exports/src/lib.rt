@@ -307,7 +307,7 @@ pub extern "C" fn matrix_write_store_edit_buffer(
 pub extern "C" fn matrix_unit_step(unit: Unit, s: &[u8], place: usize) -> Step
     ensures { result ≡ steps unit s.now place }
 {
-    units::follow(unit, s, place)
+    unit.follow(s, place)
 }
 
 // Whether a store message with that ID is meant for a unit.
@@ -315,7 +315,7 @@ pub extern "C" fn matrix_unit_step(unit: Unit, s: &[u8], place: usize) -> Step
 pub extern "C" fn matrix_unit_meant(unit: Unit, id: u8) -> bool
     ensures { result ≡ meant_for unit id }
 {
-    units::meant_for(unit, id)
+    unit.meant_for(id)
 }
 
 // Writes a bank.

@@ -14,7 +14,7 @@ ghost use Rattle.judging.specs.code.Judged.{kind_verdict, judged, Checked, Check
 use crate::content::{FRONT, NUMBER, byte_at, pack_data};
 use crate::{Judged, accepted, refused, refused_by};
 use answers::{DONE, NOT_ALLOWED, Outcome, WIDE_DATA, WRONG_LENGTH, WRONG_SUM};
-use messages::kinds::{Behind, Dump, MASTER, PATCH, Packed, size_of};
+use messages::kinds::{Behind, Dump, MASTER, PATCH, Packed};
 use ranges::Failed;
 
 // Where the data bytes of a patch dump end in its content, and its sum stands.
@@ -110,7 +110,7 @@ fn check_packed(packed: Packed, body: &[u8], count: usize) -> Outcome
             &mut room[..PATCH],
         );
     }
-    check_room(packed, body, count, &mut room[..size_of(packed)])
+    check_room(packed, body, count, &mut room[..packed.size()])
 }
 
 // The byte behind a dump's opcode does not pass.

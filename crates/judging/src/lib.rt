@@ -20,7 +20,7 @@ use crate::dumps::judge_dump;
 use crate::shorts::judge_short;
 use answers::{DONE, NO_ROOM, OTHER_DEVICE, OTHER_MAKER, OTHER_OPCODE, Outcome};
 use frames::Span;
-use messages::kinds::{DEVICE, Kind, MAKER, kind_of, packed_size};
+use messages::kinds::{DEVICE, Kind, MAKER, kind_of};
 
 // An outcome, and the bytes that come with it: the number of a patch or a split, or those of an edit or an operation; zero where there are
 // none.
@@ -118,7 +118,7 @@ fn record_content(rest: &[u8], n: usize, count: usize, buffer: &mut [u8]) -> Jud
     if j.outcome.answer != DONE {
         return j;
     }
-    let size = packed_size(kind_of(byte_at(&rest[..n], count, 2)));
+    let size = kind_of(byte_at(&rest[..n], count, 2)).packed_size();
     if buffer.len() < size {
         return refused_by(NO_ROOM);
     }

@@ -14,7 +14,7 @@ use crate::content::byte_at;
 use crate::{Judged, accepted, refused, refused_by};
 use answers::{DONE, NOT_ALLOWED, Outcome, WRONG_LENGTH};
 use fields::Parameter;
-use messages::kinds::{Operands, Short, count_of};
+use messages::kinds::{Operands, Short};
 use operations::Operation;
 
 // The test of an operation's bytes: 8 where it may not have them.
@@ -31,7 +31,7 @@ fn test_operation(operation: Operation, bytes: &[u8]) -> Outcome
 pub fn test_operands(operands: Operands, bytes: &[u8]) -> Outcome
     ensures { result ≡ tested (lent_operand_rows operands bytes.now) }
 {
-    if bytes.len() != count_of(operands) {
+    if bytes.len() != operands.count() {
         return answers::refused(WRONG_LENGTH, 0);
     }
     match operands {

@@ -5,7 +5,7 @@ use mathlib.Core.List.{List, [], ◌∷◌}
 use Prim.Native.Nat.{ℕ, ◌+◌, ◌*◌, ◌≤◌}
 use native.Mathlib.Omega.{arith}
 use lib.Dec.{T, eqb, eqb→eq, leb→le}
-use borrow.Author.Tests.{eqb-true, ne_eqb}
+use borrow.Author.Tests.{eqb-true}
 use Rattle.answers.specs.Lists.{All}
 use Rattle.ranges.proofs.Below.{parts}
 use Rattle.messages.specs.Kinds.{Kind, of_dump, of_short, unknown, kinds, opcode_of, among, kind_of, Filed, is_unknown, size_of, count_of, master}
@@ -37,18 +37,6 @@ among_opcode (k ∷ ks) o h = by_test (eqb o (opcode_of k)) refl (among_opcode k
 pub found_opcode : (o : ℕ) → is_unknown (kind_of o) ≡ false → o ≡ opcode_of (kind_of o)
 unfolding kind_of
 found_opcode o h = among_opcode kinds o h
-
--- What the last arm of a match over the opcodes of a list knows, besides A: it is none of them.
-abbrev pub Others : Type 0 → List Kind → ℕ → Type 0
-Others A [] o = A
-Others A (k ∷ ks) o = Others (A × (o ≡ opcode_of k → ⊥)) ks o
-
--- So no kind is found.
-pub no_kind : (A : Type 0) (ks : List Kind) (o : ℕ) → Others A ks o → A × (among ks o ≡ unknown)
-no_kind A [] o h = (h, refl)
-no_kind A (k ∷ ks) o h =
-    let r = no_kind (A × (o ≡ opcode_of k → ⊥)) ks o h in
-    (r.0.0, rw (ne_eqb o (opcode_of k) r.0.1) r.1)
 
 -- What is found is one of the kinds.
 pub found_filed : (o : ℕ) → is_unknown (kind_of o) ≡ false → Filed (kind_of o)

@@ -130,22 +130,35 @@ pub const SPLIT: usize = splits::SIZE;
 pub const MASTER: usize = 172;
 
 // The byte behind a dump's opcode: a number up to a greatest, which comes with the answer; or always the same byte, which does not.
-#[derive(Clone, Copy)]
+#[derive(Clone, Copy, Debug, PartialEq, Eq)]
 pub enum Behind {
     NumberTo(u8),
     Always(u8),
 }
 
 // The packed bytes of a dump: a patch or a split, which have their own tests, or so many bytes of any value.
-#[derive(Clone, Copy)]
+#[derive(Clone, Copy, Debug, PartialEq, Eq)]
 pub enum Packed {
     Patch,
     Split,
     AnyBytes(usize),
 }
 
+impl Packed {
+    // How many they are.
+    pub fn size(self) -> usize
+        ensures { result ≡ size_of self }
+    {
+        match self {
+            Packed::Patch => PATCH,
+            Packed::Split => SPLIT,
+            Packed::AnyBytes(count) => count,
+        }
+    }
+}
+
 // A dump's kind.
-#[derive(Clone, Copy)]
+#[derive(Clone, Copy, Debug, PartialEq, Eq)]
 pub struct Dump {
     pub opcode: u8,
     pub length: usize,
@@ -154,26 +167,51 @@ pub struct Dump {
 }
 
 // The bytes behind a short message's opcode, with their own tests: an edit's two, a bus edit's four, or those of an operation.
-#[derive(Clone, Copy)]
+#[derive(Clone, Copy, Debug, PartialEq, Eq)]
 pub enum Operands {
     Edit,
     BusEdit,
     Operation(Operation),
 }
 
+impl Operands {
+    // How many they are.
+    pub fn count(self) -> usize
+        ensures { result ≡ count_of self }
+    {
+        match self {
+            Operands::Edit => 2,
+            Operands::BusEdit => 4,
+            Operands::Operation(operation) => operation.count(),
+        }
+    }
+}
+
 // A short message's kind.
-#[derive(Clone, Copy)]
+#[derive(Clone, Copy, Debug, PartialEq, Eq)]
 pub struct Short {
     pub opcode: u8,
     pub length: usize,
     pub operands: Operands,
 }
 
-#[derive(Clone, Copy)]
+#[derive(Clone, Copy, Debug, PartialEq, Eq)]
 pub enum Kind {
     Dump(Dump),
     Short(Short),
     Unknown,
+}
+
+impl Kind {
+    // How many packed bytes a message of this kind has: none where it is no dump.
+    pub fn packed_size(self) -> usize
+        ensures { result ≡ packed_size self }
+    {
+        match self {
+            Kind::Dump(dump) => dump.packed.size(),
+            Kind::Short(_) | Kind::Unknown => 0,
+        }
+    }
 }
 
 pub const SINGLE_PATCH: Dump = Dump {
@@ -247,6 +285,7 @@ pub const STORE_EDIT_BUFFER: Short = Short {
 };
 
 // The kind of an opcode.
+#[tactic(auto, unfolding(crate::specs::Kinds::kind_of))]
 pub fn kind_of(opcode: u8) -> Kind
     ensures { result ≡ kind_of opcode }
 {
@@ -263,41 +302,5 @@ pub fn kind_of(opcode: u8) -> Kind
         EditBuffer::OPCODE => Kind::Dump(EDIT_BUFFER),
         StoreEditBuffer::OPCODE => Kind::Short(STORE_EDIT_BUFFER),
         _ => Kind::Unknown,
-    }
-}
-
-// How many packed bytes a dump has.
-pub fn size_of(packed: Packed) -> usize
-    ensures { result ≡ size_of packed }
-{
-    match packed {
-        Packed::Patch => PATCH,
-        Packed::Split => SPLIT,
-        Packed::AnyBytes(count) => count,
-    }
-}
-
-// How many bytes a short message has behind its opcode.
-pub fn count_of(operands: Operands) -> usize
-    ensures { result ≡ count_of operands }
-{
-    match operands {
-        Operands::Edit => 2,
-        Operands::BusEdit => 4,
-        Operands::Operation(operation) => operations::count_of(operation),
-    }
-}
-
-// How many packed bytes a message of a kind has: none where it is no dump.
-pub fn packed_size(kind: Kind) -> usize
-    ensures { result ≡ packed_size kind }
-{
-    match kind {
-        Kind::Dump(dump) => {
-            let packed = dump.packed;
-            size_of(packed)
-        }
-        Kind::Short(_) => 0,
-        Kind::Unknown => 0,
     }
 }

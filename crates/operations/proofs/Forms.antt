@@ -1,20 +1,13 @@
--- Bytes of a form: as many as it has. The one byte that is left to test decides, where the others have passed.
+-- Bytes of a form: as many as it has.
 use mathlib.Core.Path.{◌≡◌, refl, ◌∙◌}
-use mathlib.Core.Bool.{Bool, true, false, ◌&&◌, ◌||◌}
+use mathlib.Core.Bool.{false}
 use mathlib.Core.List.{List, [], ◌∷◌}
 use Prim.Native.Nat.{ℕ}
 use native.Mathlib.Omega.{arith}
 use lib.ListN.{length}
+use Rattle.std.proofs.lemmas.Bool.{and_right, or_from}
 use Rattle.answers.specs.Lists.{All}
 use Rattle.operations.specs.Operations.{Operation, a_request, a_group, a_bank, an_unlock, a_store, Values, has, bytes_of, forms_of, has_form, has_one, allowed}
-
-pub alone : (t : Bool) → t ≡ ((t && true) || false)
-alone true = refl
-alone false = refl
-
-and_false : (t : Bool) → (t && false) ≡ false
-and_false true = refl
-and_false false = refl
 
 -- Every form of an operation has as many bytes as the operation.
 abbrev AsMany : ℕ → List Values → Type 0
@@ -32,11 +25,11 @@ other_length : (f : List Values) (b : List ℕ) → (length b ≡ length f → �
 other_length [] [] h = absurd (h refl)
 other_length [] (b ∷ bs) h = refl
 other_length (v ∷ f) [] h = refl
-other_length (v ∷ f) (b ∷ bs) h = rw (other_length f bs (λ e. h (omega arith))) (and_false (has v b))
+other_length (v ∷ f) (b ∷ bs) h = and_right (has v b) (has_form f bs) (other_length f bs (λ e. h (omega arith)))
 
 none_of : (n : ℕ) (fs : List (List Values)) (b : List ℕ) → All (AsMany n) fs → (length b ≡ n → ⊥) → has_one fs b ≡ false
 none_of n [] b a h = refl
-none_of n (f ∷ fs) b a h = rw (other_length f b (λ e. h (e ∙ a.0)), none_of n fs b a.1 h)
+none_of n (f ∷ fs) b a h = or_from (has_form f b) (has_one fs b) (other_length f b (λ e. h (e ∙ a.0))) (none_of n fs b a.1 h)
 
 pub other_count : (o : Operation) (b : List ℕ) → (length b ≡ bytes_of o → ⊥) → allowed o b ≡ false
 unfolding allowed

@@ -1,13 +1,15 @@
 -- What the forms come to in numbers: a test of them that passes is one of them met, and back.
-use mathlib.Core.Path.{◌≡◌, refl, ◌∙◌, sym}
-use mathlib.Core.Bool.{Bool, true, false, ◌&&◌, ◌||◌}
+use mathlib.Core.Path.{◌≡◌, refl}
+use mathlib.Core.Bool.{true, false}
 use mathlib.Core.List.{List, [], ◌∷◌}
 use mathlib.Core.Logic.{◌⊎◌, inl, inr}
 use Prim.Native.Nat.{ℕ, ◌≤◌, ◌<◌}
 use native.Mathlib.Omega.{arith}
-use lib.Dec.{eqb, leb}
+use lib.Dec.{leb}
 use lib.ListN.{length}
-use borrow.Author.Tests.{eqb-true, eqb-false, leb-true, eq-eqb, le-leb}
+use Rattle.std.specs.Bool.{Decides}
+use Rattle.std.proofs.lemmas.Bool.{false≢true, both_ways, eqb-true, eq-eqb, leb-true, le-leb, cases_eq, false_from_ne_true}
+use Rattle.std.proofs.lemmas.Bool.Decides.{Decides-and, Decides-or}
 use Rattle.answers.specs.Lists.{All}
 use Rattle.operations.specs.Operations.{Operation, a_request, a_group, a_bank, an_unlock, a_store, Values, only, up_to, between, has}
 use Rattle.operations.specs.Operations.{bytes_of, forms_of, has_form, has_one, allowed}
@@ -29,62 +31,29 @@ abbrev OneMet : List (List Values) → List ℕ → Type 0
 OneMet [] b = ⊥
 OneMet (f ∷ fs) b = FormMet f b ⊎ OneMet fs b
 
-both : (s t : Bool) → (s && t) ≡ true → (s ≡ true) × (t ≡ true)
-both true t e = (refl, e)
-both false t e = let z : ◌≡◌ {A = ℕ} 0 1 = cc in absurd (omega arith)
+-- A test of bytes passes exactly where they meet the form.
+never : Decides false ⊥
+never = (false≢true, λ m. absurd m)
 
-either : (s t : Bool) → (s || t) ≡ true → (s ≡ true) ⊎ (t ≡ true)
-either true t e = inl refl
-either false t e = inr e
+value_decides : (v : Values) (b : ℕ) → Decides (has v b) (Met v b)
+value_decides (only value) b = (eqb-true b value, eq-eqb b value)
+value_decides (up_to greatest) b = (leb-true b greatest, le-leb b greatest)
+value_decides (between least greatest) b =
+    Decides-and (leb least b) (leb b greatest) (leb-true least b, le-leb least b) (leb-true b greatest, le-leb b greatest)
 
-met : (v : Values) (b : ℕ) → has v b ≡ true → Met v b
-met (only value) b e = eqb-true b value e
-met (up_to greatest) b e = leb-true b greatest e
-met (between least greatest) b e =
-    let q = both (leb least b) (leb b greatest) e in
-    (leb-true least b q.0, leb-true b greatest q.1)
+form_decides : (f : List Values) (b : List ℕ) → Decides (has_form f b) (FormMet f b)
+form_decides [] [] = (λ e. tt, λ m. refl)
+form_decides [] (b ∷ bs) = never
+form_decides (v ∷ vs) [] = never
+form_decides (v ∷ vs) (b ∷ bs) = Decides-and (has v b) (has_form vs bs) (value_decides v b) (form_decides vs bs)
 
-meets : (v : Values) (b : ℕ) → Met v b → has v b ≡ true
-meets (only value) b m = eq-eqb b value m
-meets (up_to greatest) b m = le-leb b greatest m
-meets (between least greatest) b m = rw (le-leb least b m.0) (le-leb b greatest m.1)
+one_decides : (fs : List (List Values)) (b : List ℕ) → Decides (has_one fs b) (OneMet fs b)
+one_decides [] b = never
+one_decides (f ∷ fs) b = Decides-or (has_form f b) (has_one fs b) (form_decides f b) (one_decides fs b)
 
-form_met : (f : List Values) (b : List ℕ) → has_form f b ≡ true → FormMet f b
-form_met [] [] e = tt
-form_met [] (b ∷ bs) e = let z : ◌≡◌ {A = ℕ} 0 1 = cc in absurd (omega arith)
-form_met (v ∷ vs) [] e = let z : ◌≡◌ {A = ℕ} 0 1 = cc in absurd (omega arith)
-form_met (v ∷ vs) (b ∷ bs) e = let q = both (has v b) (has_form vs bs) e in (met v b q.0, form_met vs bs q.1)
-
-meets_form : (f : List Values) (b : List ℕ) → FormMet f b → has_form f b ≡ true
-meets_form [] [] m = refl
-meets_form [] (b ∷ bs) m = absurd m
-meets_form (v ∷ vs) [] m = absurd m
-meets_form (v ∷ vs) (b ∷ bs) m = rw (meets v b m.0) (meets_form vs bs m.1)
-
-one_met : (fs : List (List Values)) (b : List ℕ) → has_one fs b ≡ true → OneMet fs b
-one_met [] b e = let z : ◌≡◌ {A = ℕ} 0 1 = cc in absurd (omega arith)
-one_met (f ∷ fs) b e = by (one_met fs b) (either (has_form f b) (has_one fs b) e)
-  where
-    by : (has_one fs b ≡ true → OneMet fs b) → (has_form f b ≡ true) ⊎ (has_one fs b ≡ true) → OneMet (f ∷ fs) b
-    by later (inl h) = inl (form_met f b h)
-    by later (inr h) = inr (later h)
-
-meets_one : (fs : List (List Values)) (b : List ℕ) → OneMet fs b → has_one fs b ≡ true
-meets_one [] b m = absurd m
-meets_one (f ∷ fs) b (inl m) = rw (meets_form f b m)
-meets_one (f ∷ fs) b (inr m) = by (has_form f b) (meets_one fs b m)
-  where
-    by : (t : Bool) → has_one fs b ≡ true → (t || has_one fs b) ≡ true
-    by true later = refl
-    by false later = later
-
-allowed_met : (o : Operation) (b : List ℕ) → allowed o b ≡ true → OneMet (forms_of o) b
+decides : (o : Operation) (b : List ℕ) → Decides (allowed o b) (OneMet (forms_of o) b)
 unfolding allowed
-allowed_met o b e = one_met (forms_of o) b e
-
-met_allowed : (o : Operation) (b : List ℕ) → OneMet (forms_of o) b → allowed o b ≡ true
-unfolding allowed
-met_allowed o b m = meets_one (forms_of o) b m
+decides o b = one_decides (forms_of o) b
 
 -- Their values are data bytes.
 abbrev greatest_of : Values → ℕ
@@ -122,19 +91,12 @@ forms_seven an_unlock = omega arith
 forms_seven a_store = omega arith
 
 pub allowed_seven : (o : Operation) (b : List ℕ) → allowed o b ≡ true → DataBytes b
-allowed_seven o b e = one_seven (forms_of o) b (forms_seven o) (allowed_met o b e)
-
-not_true_false : (t : Bool) → (t ≡ true → ⊥) → t ≡ false
-not_true_false true h = absurd (h refl)
-not_true_false false h = refl
+allowed_seven o b e = one_seven (forms_of o) b (forms_seven o) ((decides o b).0 e)
 
 -- Another count of bytes has no form.
 counted : (o : Operation) (b : List ℕ) → allowed o b ≡ true → length b ≡ bytes_of o
-counted o b e = by (eqb (length b) (bytes_of o)) refl
-  where
-    by : (t : Bool) → eqb (length b) (bytes_of o) ≡ t → length b ≡ bytes_of o
-    by true q = eqb-true (length b) (bytes_of o) q
-    by false q = let z = sym e ∙ other_count o b (eqb-false (length b) (bytes_of o) q) in let y : ◌≡◌ {A = ℕ} 0 1 = cc in absurd (omega arith)
+counted o b e =
+    elim (cases_eq (length b) (bytes_of o)) [ inl q ↦ q | inr q ↦ absurd (both_ways (allowed o b) (other_count o b q) e) ]
 
 abbrev Request : ℕ → ℕ → Type 0
 Request k n = ((k ≡ 1) × (n ≤ 99)) ⊎ (((k ≡ 0) ⊎ ((k ≡ 3) ⊎ (k ≡ 4))) × (n ≡ 0))
@@ -176,12 +138,12 @@ six (inr h) = omega arith
 
 pub in_numbers : Allowed
 in_numbers = record {
-  request = λ k n. (λ e. request k n (allowed_met a_request (k ∷ n ∷ []) e), λ q. met_allowed a_request (k ∷ n ∷ []) (requested k n q));
-  group = λ t i. (λ e. group t i (allowed_met a_group (t ∷ i ∷ []) e), λ q. met_allowed a_group (t ∷ i ∷ []) (inl ((q.0, q.1), (q.2, tt))));
-  bank = λ b. (λ e. bank b (allowed_met a_bank (b ∷ []) e), λ q. met_allowed a_bank (b ∷ []) (inl (q, tt)));
-  unlock = met_allowed an_unlock [] (inl tt);
-  store = λ n b i. (λ e. store n b i (allowed_met a_store (n ∷ b ∷ i ∷ []) e), λ q. met_allowed a_store (n ∷ b ∷ i ∷ []) (stored n b i q));
-  group_6 = λ t. not_true_false _ (λ e. six (inl (group t 6 (allowed_met a_group (t ∷ 6 ∷ []) e)).2));
-  store_6 = λ n b. not_true_false _ (λ e. six (store n b 6 (allowed_met a_store (n ∷ b ∷ 6 ∷ []) e)).2);
+  request = λ k n. (λ e. request k n ((decides a_request (k ∷ n ∷ [])).0 e), λ q. (decides a_request (k ∷ n ∷ [])).1 (requested k n q));
+  group = λ t i. (λ e. group t i ((decides a_group (t ∷ i ∷ [])).0 e), λ q. (decides a_group (t ∷ i ∷ [])).1 (inl ((q.0, q.1), (q.2, tt))));
+  bank = λ b. (λ e. bank b ((decides a_bank (b ∷ [])).0 e), λ q. (decides a_bank (b ∷ [])).1 (inl (q, tt)));
+  unlock = (decides an_unlock []).1 (inl tt);
+  store = λ n b i. (λ e. store n b i ((decides a_store (n ∷ b ∷ i ∷ [])).0 e), λ q. (decides a_store (n ∷ b ∷ i ∷ [])).1 (stored n b i q));
+  group_6 = λ t. false_from_ne_true _ (λ e. six (inl (group t 6 ((decides a_group (t ∷ 6 ∷ [])).0 e)).2));
+  store_6 = λ n b. false_from_ne_true _ (λ e. six (store n b 6 ((decides a_store (n ∷ b ∷ 6 ∷ [])).0 e)).2);
   counted = counted;
 }

@@ -1,5 +1,5 @@
 -- What a step comes to by the report of the walk and the bytes that come with it.
-use mathlib.Core.Path.{◌≡◌, refl, ap, ◌∙◌}
+use mathlib.Core.Path.{◌≡◌, refl, sym, ◌∙◌}
 use mathlib.Core.List.{List}
 use mathlib.Core.Option.{Option, none, some}
 use Prim.Native.Nat.{ℕ, ◌%◌}
@@ -21,7 +21,7 @@ use Rattle.messages.proofs.Accepted.{accepted}
 use Rattle.reading.specs.declared.recording.Reading.{Reading}
 use Rattle.reading.specs.code.Told.{report_or, bytes_found, walked, walked_with}
 use Rattle.units.specs.code.Steps.{told, steps}
-use Rattle.units.specs.Units.{Unit, stays, obeyed, by_operands, by_kind, step_by, step_or, stepping}
+use Rattle.units.specs.Units.{Unit, Stepped, stays, obeyed, by_operands, by_kind, step_by, step_or, stepping}
 
 -- A message that is refused, and none, changes nothing.
 pub refused_stays : (u : Unit) (s : List ℕ) (place : ℕ) → ((walked s place).outcome.answer ≡ 0 → ⊥) → stepping u s place ≡ stays u
@@ -71,9 +71,13 @@ accepted_step u s place z = by_walk (walk judge s place) refl z
 
 -- The same of what the walk gave, as the code tells it.
 pub quiet_step : (r : Reading) (u : Unit) (s : List ℕ) (place : ℕ) → r ≡ walked_with s place → (r.report.outcome.answer ≡ 0 → ⊥)
-    → told r.report (stays u) ≡ steps u s place
-quiet_step r u s place e h = rw (e, refused_stays u s place (rw e at h))
+    → stays u ≡ stepping u s place
+quiet_step r u s place e h = sym (refused_stays u s place (rw e at h))
 
 pub kind_step : (r : Reading) (k : Kind) (u : Unit) (s : List ℕ) (place : ℕ) → r ≡ walked_with s place → k ≡ kind_of (r.report.outcome.detail % 256)
-    → r.report.outcome.answer ≡ 0 → told r.report (by_kind u k r.bytes) ≡ steps u s place
-kind_step r k u s place e q z = rw (q, e) (ap (told (walked s place)) (accepted_step u s place (rw e at z)))
+    → r.report.outcome.answer ≡ 0 → by_kind u k r.bytes ≡ stepping u s place
+kind_step r k u s place e q z = rw (q, e) (accepted_step u s place (rw e at z))
+
+pub step_told : (r : Reading) (d : Stepped) (u : Unit) (s : List ℕ) (place : ℕ) → r ≡ walked_with s place → d ≡ stepping u s place
+    → told r.report d ≡ steps u s place
+step_told r d u s place e q = rw (e, q)

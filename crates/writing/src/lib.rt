@@ -20,7 +20,7 @@ use judging::shorts::test_operands;
 use messages::kinds::{
     BUS_EDIT, DEVICE, Dump, EDIT_BUFFER, GROUP_MODE, MAKER, MASTER_PARAMETERS, MasterParameters,
     PATCH, REMOTE_EDIT, REQUEST_DATA, SET_BANK, SINGLE_PATCH, SPLIT_PATCH, STORE_EDIT_BUFFER,
-    Short, SinglePatch, UNLOCK_BANK, size_of,
+    Short, SinglePatch, UNLOCK_BANK,
 };
 
 // A bank has at most 100 patches.
@@ -71,7 +71,7 @@ fn test_dump(kind: Dump, number: u8, p: &[u8]) -> Outcome
     ensures { result ≡ tested (dump_given kind number p.now) }
 {
     let packed = kind.packed;
-    if p.len() != size_of(packed) {
+    if p.len() != packed.size() {
         return answers::refused(WRONG_LENGTH, 0);
     }
     let behind = kind.behind;

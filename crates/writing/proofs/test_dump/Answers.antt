@@ -6,13 +6,13 @@ use Rattle.messages.specs.Kinds.{size_of}
 use Rattle.writing.proofs.test_dump.Goals.{After-wrong_number}
 use Rattle.writing.proofs.test_dump.Goals as goal
 
-pub returns-then-p-size_of : goal.returns-then-p-size_of
-returns-then-p-size_of c =
+pub returns-then-p-size : goal.returns-then-p-size
+returns-then-p-size c =
     let a = c.args in
-    c.refused.ensures ∙ rw (ne_eqb (length a.p.now) (size_of a.kind.packed) (λ e. c.if-p-size_of.true (e ∙ sym c.size_of.ensures)))
+    c.refused.ensures ∙ rw (ne_eqb (length a.p.now) (size_of a.kind.packed) (λ e. c.if-p-size.true (e ∙ sym c.size.ensures)))
 
 right : (t : After-wrong_number) → length t.args.p.now ≡ size_of t.args.kind.packed
-right t = t.if-p-size_of.false ∙ t.size_of.ensures
+right t = t.if-p-size.false ∙ t.size.ensures
 
 pub returns-then-wrong_number : goal.returns-then-wrong_number
 returns-then-wrong_number c =

@@ -8,7 +8,7 @@ use lib.ListN.{length, take, replicate}
 use lib.Seq.{length-take-le}
 use Rattle.messages.specs.declared.kinds.Packed.TheVariants.{Patch as a_patch}
 use Rattle.judging.proofs.Places.{content_whole}
-use Rattle.judging.proofs.dumps.check_packed.Goals.{After-size_of, Then-is_plain_patch}
+use Rattle.judging.proofs.dumps.check_packed.Goals.{After-size, Then-is_plain_patch}
 use Rattle.judging.proofs.dumps.check_packed.Goals as goal
 
 plain : (c : Then-is_plain_patch) → let a = c.args in (a.packed ≡ a_patch) × (a.count ≡ length a.body.now)
@@ -25,21 +25,21 @@ returns-then-is_plain_patch c =
 
 -- Other bytes, by their count.
 
-small : (c : After-size_of) → c.size_of.result ≤ 172
-small c = rw c.size_of.ensures c.requires.1
+small : (c : After-size) → c.size.result ≤ 172
+small c = rw c.size.ensures c.requires.1
 
 abbrev zeros : List ℕ
 zeros = replicate 172 0
 
-room_of : (c : After-size_of) → length (take c.size_of.result zeros) ≡ c.size_of.result
-room_of c = length-take-le c.size_of.result zeros (small c)
+room_of : (c : After-size) → length (take c.size.result zeros) ≡ c.size.result
+room_of c = length-take-le c.size.result zeros (small c)
 
 pub slice_bounds-check_room-end : goal.slice_bounds-check_room-end
-slice_bounds-check_room-end c = sym (room_of (goal.at.slice_bounds-check_room-end c).After-size_of)
+slice_bounds-check_room-end c = sym (room_of (goal.at.slice_bounds-check_room-end c).After-size)
 
 pub check_room-requires : goal.check_room-requires
 check_room-requires c =
-    (c.requires.0, rw (room_of (goal.at.check_room-requires c).After-size_of) c.size_of.ensures)
+    (c.requires.0, rw (room_of (goal.at.check_room-requires c).After-size) c.size.ensures)
 
 pub slice_bounds-check_patch-end : goal.slice_bounds-check_patch-end
 slice_bounds-check_patch-end c = omega (arith, long c)

@@ -7,19 +7,19 @@ use Rattle.messages.specs.Kinds.{count_of}
 use Rattle.judging.proofs.shorts.test_operands.Goals.{In-BusEdit, In-Edit}
 use Rattle.judging.proofs.shorts.test_operands.Goals as goal
 
-pub returns-then-bytes-count_of : goal.returns-then-bytes-count_of
-returns-then-bytes-count_of c =
+pub returns-then-bytes-count : goal.returns-then-bytes-count
+returns-then-bytes-count c =
     let args = c.args in
-    let other : length args.bytes.now ≡ count_of args.operands → ⊥ = λ e. c.if-bytes-count_of.true (e ∙ sym c.count_of.ensures) in
+    let other : length args.bytes.now ≡ count_of args.operands → ⊥ = λ e. c.if-bytes-count.true (e ∙ sym c.count.ensures) in
     rw (ne_eqb (length args.bytes.now) (count_of args.operands) other) c.refused.ensures
 
 -- The bytes are as many as the kind has.
 
 edit_counted : (c : In-Edit) → length c.args.bytes.now ≡ 2
-edit_counted c = c.if-bytes-count_of.false ∙ c.count_of.ensures ∙ ap count_of c.in-Edit.is
+edit_counted c = c.if-bytes-count.false ∙ c.count.ensures ∙ ap count_of c.in-Edit.is
 
 bus_counted : (c : In-BusEdit) → length c.args.bytes.now ≡ 4
-bus_counted c = c.if-bytes-count_of.false ∙ c.count_of.ensures ∙ ap count_of c.in-BusEdit.is
+bus_counted c = c.if-bytes-count.false ∙ c.count.ensures ∙ ap count_of c.in-BusEdit.is
 
 pub bounds-bytes-0 : goal.bounds-bytes-0
 bounds-bytes-0 c = omega (arith, edit_counted (goal.at.bounds-bytes-0 c).In-Edit)
@@ -49,5 +49,5 @@ returns-in-BusEdit c =
 pub returns-in-Operation : goal.returns-in-Operation
 returns-in-Operation c =
     let args = c.args in
-    let counted = c.if-bytes-count_of.false ∙ c.count_of.ensures in
+    let counted = c.if-bytes-count.false ∙ c.count.ensures in
     rw (eq-eqb (length args.bytes.now) (count_of args.operands) counted, c.in-Operation.is) c.test_operation.ensures
