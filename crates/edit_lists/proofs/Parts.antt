@@ -8,12 +8,12 @@ use native.Mathlib.Omega.{arith}
 use lib.Dec.{T, eqb, leb, ltb, eqb→eq, leb→le, ltb→lt}
 use lib.ListN.{length, get_or, drop, length-take, length-drop}
 use lib.Seq.{ext_get_or, get_or-take, get_or-drop}
-use borrow.Author.Tests.{lt-ltb, le-ltb}
+use borrow.Author.Tests.{lt-ltb, le-ltb, ltb-true, ltb-false}
 use Rattle.ranges.proofs.Below.{parts as both}
 use Rattle.patch.specs.Patch.{source_at}
 use Rattle.pairs.proofs.Equal.{same_refl, same_equal}
 use Rattle.edit_lists.specs.Plan.{width_of, parts_from, parts, bytes_at, same_at, differing, bus_at}
-use Rattle.edit_lists.specs.code.Left.{Part}
+use Rattle.edit_lists.specs.code.Left.{IsPart}
 
 pub width_field : (k : ℕ) → k < 104 → width_of k ≡ 1
 width_field k h = rw (lt-ltb k 104 h)
@@ -24,10 +24,18 @@ width_bus k h = rw (le-ltb k 104 h)
 -- Parts that lie end to end from place m to place n.
 abbrev pub Tiles : ℕ → ℕ → List ℕ → Type 0
 Tiles m n [] = m ≡ n
-Tiles m n (k ∷ ks) = (k ≡ m) × Part k × Tiles (m + width_of k) n ks
+Tiles m n (k ∷ ks) = (k ≡ m) × IsPart k × Tiles (m + width_of k) n ks
+
+-- A part is a parameter or a bus.
+pub part_kind : (k : ℕ) → IsPart k → (k < 104) ⊎ ((104 ≤ k) × (k ≡ source_at (bus_at k)) × (bus_at k < 10))
+part_kind k p = go (ltb k 104) refl
+  where
+    go : (t : Bool) → ltb k 104 ≡ t → (k < 104) ⊎ ((104 ≤ k) × (k ≡ source_at (bus_at k)) × (bus_at k < 10))
+    go true q = inl (ltb-true k 104 q)
+    go false q = let l = ltb-false k 104 q in inr (l, p.2 l, omega arith)
 
 abbrev is_part : ℕ → Bool
-is_part k = leb 8 k && (ltb k 104 || (eqb k (source_at (bus_at k)) && ltb (bus_at k) 10))
+is_part k = leb 8 k && (ltb k 134 && (ltb k 104 || eqb k (source_at (bus_at k))))
 
 abbrev tiled : ℕ → ℕ → List ℕ → Bool
 tiled m n [] = eqb m n
@@ -37,14 +45,15 @@ either : (s t : Bool) → T (s || t) → T s ⊎ T t
 either true t h = inl tt
 either false t h = inr h
 
-proper : (k : ℕ) → T (is_part k) → Part k
+proper : (k : ℕ) → T (is_part k) → IsPart k
 proper k t =
     let h = both (leb 8 k) _ t in
-    (leb→le 8 k h.0, go (either (ltb k 104) _ h.1))
+    let r = both (ltb k 134) _ h.1 in
+    (leb→le 8 k h.0, ltb→lt k 134 r.0, go (either (ltb k 104) _ r.1))
   where
-    go : T (ltb k 104) ⊎ T (eqb k (source_at (bus_at k)) && ltb (bus_at k) 10) → (k < 104) ⊎ ((k ≡ source_at (bus_at k)) × (bus_at k < 10))
-    go (inl t) = inl (ltb→lt k 104 t)
-    go (inr t) = let h = both (eqb k (source_at (bus_at k))) _ t in inr (eqb→eq k (source_at (bus_at k)) h.0, ltb→lt (bus_at k) 10 h.1)
+    go : T (ltb k 104) ⊎ T (eqb k (source_at (bus_at k))) → 104 ≤ k → k ≡ source_at (bus_at k)
+    go (inl t) u = let h = ltb→lt k 104 t in absurd (omega arith)
+    go (inr t) u = eqb→eq k (source_at (bus_at k)) t
 
 tile : (m n : ℕ) (ks : List ℕ) → T (tiled m n ks) → Tiles m n ks
 tile m n [] t = eqb→eq m n t
@@ -59,14 +68,8 @@ unfolding parts parts_from
 parts_tile = tile 8 134 parts tt
 
 -- A part that starts in another is that part.
-pub one_part : (x t : ℕ) → Part x → Part t → x ≤ t → t < x + width_of x → t ≡ x
-one_part x t (l, inl h) q a b = let w = width_field x h in omega arith
-one_part x t (l, inr h) (m, inl k) a b = let e = h.0 in absurd (omega arith)
-one_part x t (l, inr h) (m, inr k) a b =
-    let e = h.0 in
-    let f = k.0 in
-    let w = width_bus x (omega arith) in
-    omega arith
+pub one_part : (x t : ℕ) → IsPart x → IsPart t → x ≤ t → t < x + width_of x → t ≡ x
+one_part x t p q a b = grind (arith, width_field x, width_bus x)
 
 -- The bytes of a part, each by its place.
 part_byte : (k i : ℕ) (p : List ℕ) → k ≤ i → i < k + width_of k → get_or (bytes_at k p) (i - k) 0 ≡ get_or p i 0

@@ -3,7 +3,7 @@
 use mathlib.Core.Path.{◌≡◌, refl, sym, ap, ◌∙◌, subst}
 use mathlib.Core.Bool.{Bool, true, false, cond, ◌&&◌, ◌||◌}
 use mathlib.Core.List.{List, [], ◌∷◌, ◌++◌}
-use mathlib.Core.Logic.{inl, inr}
+use mathlib.Core.Logic.{◌⊎◌, inl, inr}
 use mathlib.Core.Option.{none}
 use Prim.Native.Nat.{ℕ, zero, suc, ◌+◌, ◌-◌, ◌%◌, ◌≤◌, ◌<◌}
 use native.Mathlib.Omega.{arith}
@@ -35,8 +35,8 @@ use Rattle.pairs.specs.Pairs.{name_of}
 use Rattle.edit_lists.specs.Lists.{Edit, remote, matrix, applied}
 use Rattle.edit_lists.specs.Plan.{width_of, bus_at, sent, reaching_bus, reaching}
 use Rattle.edit_lists.specs.promises.Shortest.{Good}
-use Rattle.edit_lists.specs.code.Left.{Part}
-use Rattle.edit_lists.proofs.Parts.{width_field, width_bus}
+use Rattle.edit_lists.specs.code.Left.{IsPart}
+use Rattle.edit_lists.proofs.Parts.{part_kind, width_field, width_bus}
 
 -- A byte below 64, or of 192..255, is the extension of its seven low bits.
 seven_low : (b : ℕ) → b < 64 → extended (sent b) ≡ b
@@ -152,7 +152,7 @@ module _ (p : List ℕ) (g : Good p) where
 
 -- A patch p becomes q by a change of one part: every byte before it and behind it stays, and q is good.
 pub record Changes (x : ℕ) (p q : List ℕ) : Type 0 where
-  pub part : Part x
+  pub part : IsPart x
   pub size : length p ≡ 134
   pub good : Good q
   pub before : (i : ℕ) → i < x → get_or q i 0 ≡ get_or p i 0
@@ -178,7 +178,7 @@ field_changes n v p d l =
     let high = s.high in
     let w = width_field d.place high in
     record {
-      part = (s.low, inl high);
+      part = (s.low, omega arith, λ u. absurd (omega arith));
       size = l;
       good = d.accepted;
       before = λ i h. d.others i (λ e. omega arith);
@@ -189,8 +189,8 @@ field_changes n v p d l =
 pub bus_there : (c : ℕ) → c < 10 → bus_at (source_at c) ≡ c
 bus_there c h = omega arith
 
-bus_proper : (c : ℕ) → c < 10 → Part (source_at c)
-bus_proper c h = let e = bus_there c h in (omega arith, inr (ap source_at (sym e), rw e h))
+bus_proper : (c : ℕ) → c < 10 → IsPart (source_at c)
+bus_proper c h = (omega arith, omega arith, λ u. ap source_at (sym (bus_there c h)))
 
 -- A matrix modulation edit that is done changes its bus.
 bus_changes : (b s a d : ℕ) (p : List ℕ) → BusDone b s a d p → length p ≡ 134 → Changes (source_at b) p (applying_bus b s a d p).lent
@@ -329,8 +329,11 @@ pub bus_reached : (k : ℕ) (b : List ℕ) → 104 ≤ k → reaching b k ≡ re
 bus_reached k b h = rw (le-ltb k 104 h)
 
 -- Between good patches every part can be given its bytes.
-pub part_gets : (x : ℕ) (p b : List ℕ) → Part x → Good p → Good b → Gets x p b (applied (reaching b x) p)
-part_gets x p b (l, inl h) g f = rw (reaching_field x b h) (field_gets x p b l h g f)
-part_gets x p b (l, inr h) g f =
-    let e = h.0 in
-    rw (bus_reached x b (omega arith)) (subst (λ (y : ℕ). Gets y p b (applied (reaching_bus b (bus_at x)) p)) (sym e) (bus_gets (bus_at x) p b h.1 g f))
+pub part_gets : (x : ℕ) (p b : List ℕ) → IsPart x → Good p → Good b → Gets x p b (applied (reaching b x) p)
+part_gets x p b part g f = go (part_kind x part)
+  where
+    go : (x < 104) ⊎ ((104 ≤ x) × (x ≡ source_at (bus_at x)) × (bus_at x < 10)) → Gets x p b (applied (reaching b x) p)
+    go (inl h) = rw (reaching_field x b h) (field_gets x p b part.0 h g f)
+    go (inr h) =
+        rw (bus_reached x b h.0)
+        (subst (λ (y : ℕ). Gets y p b (applied (reaching_bus b (bus_at x)) p)) (sym h.1) (bus_gets (bus_at x) p b h.2 g f))

@@ -1,17 +1,16 @@
 -- The tests of a pair: what rows that say nothing tell of the two patches.
-use mathlib.Core.Path.{◌≡◌, refl, sym, ap, ◌∙◌}
+use mathlib.Core.Path.{◌≡◌, refl}
 use mathlib.Core.Bool.{not}
 use mathlib.Core.List.{List, [], ◌∷◌, ◌++◌}
 use mathlib.Core.Option.{none}
 use Prim.Native.Nat.{ℕ}
 use native.Mathlib.Omega.{arith}
 use borrow.Author.Tests.{not-false}
-use Rattle.answers.specs.declared.Outcome.{Outcome}
 use Rattle.answers.specs.Table.{Row, row, says, done}
 use Rattle.answers.specs.Effect.{tested}
 use Rattle.answers.specs.promises.Decides.{Silent}
 use Rattle.answers.proofs.Lists.{all_append}
-use Rattle.answers.proofs.Rows.{Refusals, both_refusals, passed_over, silent_parts, row_silent, tested_stopped}
+use Rattle.answers.proofs.Rows.{Refusals, both_refusals, passed_over, silent_parts, row_silent}
 use Rattle.patch.specs.Patch.{patch_rows}
 use Rattle.patch.proofs.Tests.{patch_refusals}
 use Rattle.pairs.specs.Pairs.{same_bytes, name_of, pair_rows}
@@ -27,16 +26,8 @@ module _ (a b : List ℕ) where
   pub pair_refusals : Refusals (pair_rows a b)
   pair_refusals = both_refusals (patch_rows a) (patch_rows b ++ name_rows) (patch_refusals a) second_refusals
 
-  -- The first patch's refusal is the answer; where it has none the second's; where both have none the names decide.
-  pub first_refused : (r : Outcome) → r ≡ tested (patch_rows a) → (r.answer ≡ 0 → ⊥) → r ≡ tested (pair_rows a b)
-  first_refused r e n = e ∙ sym (tested_stopped (patch_rows a) (patch_rows b ++ name_rows) (λ z. n (ap (λ (o : Outcome). o.answer) e ∙ z)))
-
+  -- Where neither patch is refused the names decide.
   module _ (s : Silent (patch_rows a)) where
-    pub second_refused : (r : Outcome) → r ≡ tested (patch_rows b) → (r.answer ≡ 0 → ⊥) → r ≡ tested (pair_rows a b)
-    second_refused r e n =
-        rw (passed_over (patch_rows a) (patch_rows b ++ name_rows) (done 0 [] []) s)
-        (e ∙ sym (tested_stopped (patch_rows b) name_rows (λ z. n (ap (λ (o : Outcome). o.answer) e ∙ z))))
-
     pub by_names : Silent (patch_rows b) → tested (pair_rows a b) ≡ tested name_rows
     by_names t = rw (passed_over (patch_rows a) (patch_rows b ++ name_rows) (done 0 [] []) s, passed_over (patch_rows b) name_rows (done 0 [] []) t)
 

@@ -11,7 +11,7 @@ use Rattle.text.specs.Text.{ascii, followed, Puts}
 use Rattle.text.proofs.Spaced.{followed_most, signed_most}
 use Rattle.text.proofs.Puts.{puts_then, puts_counts}
 use Rattle.edit_lists.specs.Plan.{is_parameter, bus_at, parts_from, parts, same_at, differing}
-use Rattle.edit_lists.specs.code.Left.{Part, parts_left}
+use Rattle.edit_lists.specs.code.Left.{IsPart, parts_left}
 use Rattle.edit_lists.proofs.Left.{Stands, left_start, Step, none_left, sum_of, most_changes}
 use Rattle.plan.specs.Said.{said, shown_at, parameter_line, bus_values, bus_line, change_line, lines_for, change_lines}
 use Rattle.plan.specs.code.Written.{Says}
@@ -83,7 +83,7 @@ module _ (a b : List ℕ) where
           let c = bus_at k in
           joined (number_most (source_at c)) (joined bus_word (joined (number_most c) (joined (values_most a c 0x20) (values_most b c 0x0A))))
 
-  line_adds : (k : ℕ) (ks : List ℕ) → Part k → length (lines_for a b (k ∷ ks)) ≤ line_most k + length (lines_for a b ks)
+  line_adds : (k : ℕ) (ks : List ℕ) → IsPart k → length (lines_for a b (k ∷ ks)) ≤ line_most k + length (lines_for a b ks)
   unfolding lines_for
   line_adds k ks p = rw length-append (omega (arith, (line_most_holds k).bytes))
 

@@ -1,1 +1,5 @@
+pub mod Edits
+pub mod Left
+pub mod Message
+pub mod Same
 pub mod Writing

@@ -1,14 +1,13 @@
--- The loop's invariant: the list is as long as what is counted and what is left of it from the part at hand on. So the count is never more than
--- the list is long.
-use mathlib.Core.Path.{◌≡◌}
-use Prim.Native.Nat.{◌+◌, ◌-◌}
-use lib.ListN.{length}
-use Rattle.edit_lists.specs.code.Left.{edits_left}
-use Rattle.edit_lists.proofs.Left.{Stands}
+-- What is counted and what is left to count are the list's length. So the count is never more than the list is long.
+use Rattle.std.proofs.Common.{◌≡◌, ◌+◌, length}
+use Rattle.edit_lists.specs.Lists.{list_bytes}
+use Rattle.edit_lists.specs.Plan.{plan}
+use Rattle.planner.specs.code.Parts.{left}
+use Rattle.planner.proofs.Edits.{edits_for}
 use Rattle.planner.proofs.list_size.Given as goal
 
-abbrev pub invariant-loop-k : goal.invariant-loop-k
-invariant-loop-k l = Stands l.k × (length (edits_left 8 l.a l.b) ≡ l.size + length (edits_left l.k l.a l.b))
-
-abbrev pub decreases-loop-k : goal.decreases-loop-k
-decreases-loop-k l = 134 - l.k
+abbrev pub invariant-loop-part : goal.invariant-loop-part
+invariant-loop-part l =
+    (goal.iterator-loop-part).can_next l.part-iterator ×
+    (goal.iterator-loop-part).is_finite l.part-iterator ×
+    (l.size + length (edits_for l.b (left l.part-iterator)) ≡ length (list_bytes (plan l.a l.b)))

@@ -1,0 +1,92 @@
+// The parts of a patch, and those in which two patches differ.
+ghost use Rattle.std.specs.Prelude.{◌≡◌};
+ghost use Rattle.std.specs.Iterator.{YieldsFirstBy, item_count};
+ghost use Rattle.edit_lists.specs.Plan.{width_of, same_at, parts, differing};
+ghost use Rattle.edit_lists.specs.code.Left.{IsPart, Stands, length_at};
+
+use fields::{NAME_SIZE, SOURCE_AT};
+use messages::kinds::{BusEdit, PATCH, RemoteEdit};
+
+// What one edit changes: the byte of a parameter, or the three bytes of a bus. It is named by its first byte place.
+#[derive(Clone, Copy)]
+pub struct Part {
+    pub place: usize,
+    ghost begins: { IsPart place },
+}
+
+impl Part {
+    // How many bytes it has.
+    fn width(self) -> usize
+        ensures { result ≡ width_of self.place }
+    {
+        if self.place < SOURCE_AT { 1 } else { 3 }
+    }
+
+    // How long the message of its edit is.
+    pub fn message_length(self) -> usize
+        ensures { result ≡ length_at self.place }
+    {
+        if self.place < SOURCE_AT {
+            RemoteEdit::LENGTH
+        } else {
+            BusEdit::LENGTH
+        }
+    }
+
+    // Two patches have the same bytes there.
+    fn is_same(self, a: &[u8; PATCH], b: &[u8; PATCH]) -> bool
+        ensures { result ≡ same_at self.place a.now b.now }
+    {
+        let k = self.place;
+        if k < SOURCE_AT {
+            a[k] == b[k]
+        } else {
+            a[k..k + 3] == b[k..k + 3]
+        }
+    }
+}
+
+// The parts in which two patches differ, by rising byte place.
+#[derive(Drop)]
+pub struct Differing<'a> {
+    a: &'a [u8; PATCH],
+    b: &'a [u8; PATCH],
+    at: usize,
+    ghost stands: { Stands at },
+}
+
+impl<'a> Differing<'a> {
+    ghost use Rattle.planner.specs.code.Parts.{left};
+
+    // The pass over the parts of a and b.
+    pub fn of(a: &'a [u8; PATCH], b: &'a [u8; PATCH]) -> Self
+        ensures { left result ≡ differing parts a.now b.now }
+    {
+        Differing {
+            a,
+            b,
+            at: NAME_SIZE,
+        }
+    }
+}
+
+impl<'a> Iterator for Differing<'a> {
+    ghost use Rattle.planner.specs.code.Parts.{left};
+
+    type Item = Part;
+
+    ghost next_gives = { YieldsFirstBy (λ part. part.place) left };
+
+    ghost remaining = { item_count left };
+
+    fn next(&mut self) -> Option<Part> {
+        while self.at < PATCH {
+            let part = Part { place: self.at };
+            self.at += part.width();
+            if !part.is_same(self.a, self.b) {
+                return Some(part);
+            }
+        }
+        None
+    }
+}
