@@ -15,7 +15,7 @@ use Rattle.streams.proofs.Complete.{without_append}
 use Rattle.streams.proofs.Noise.{kept_and_dropped, all_kept}
 use Rattle.frames.specs.code.Extent.{past_real_time}
 use Rattle.frames.proofs.RealTime.{without_passed, without_kept, past_next}
-use Rattle.judging.specs.code.Content.{content_by, CountsContent, FrontQuiet, StandsAt, LastAt, sent_in}
+use Rattle.judging.specs.code.Content.{content_by, FrontQuiet, StandsAt, LastAt, sent_in}
 
 without_within : (b : List ℕ) → length (without_real_time b) ≤ length b
 without_within b = omega (arith, kept_and_dropped b)
@@ -28,17 +28,19 @@ pub content_left : (count : ℕ) (b : List ℕ) → (count ≡ length b → ⊥)
 content_left count b n = rw (ne_eqb count (length b) n)
 
 -- The bytes less the real time among them: all of them are left where there is none.
-pub counts_content : (noise : ℕ) (b : List ℕ) → noise ≡ real_time_in b → CountsContent b (length b - noise)
-counts_content noise b e =
-    let left = by_test (eqb (length b - noise) (length b)) refl in
-    record { same = left; counted = size ∙ sym (ap length left) }
-  where
-    size : length b - noise ≡ length (without_real_time b)
-    size = omega (arith, kept_and_dropped b, e)
+module _ (noise : ℕ) (b : List ℕ) (e : noise ≡ real_time_in b) where
+  size : length b - noise ≡ length (without_real_time b)
+  size = omega (arith, kept_and_dropped b, e)
 
-    by_test : (t : Bool) → eqb (length b - noise) (length b) ≡ t → cond t b (without_real_time b) ≡ without_real_time b
-    by_test true q = sym (all_kept b (omega (arith, kept_and_dropped b, size, eqb-true (length b - noise) (length b) q)))
-    by_test false q = refl
+  pub counted_left : content_by (length b - noise) b ≡ without_real_time b
+  counted_left = by_test (eqb (length b - noise) (length b)) refl
+    where
+      by_test : (t : Bool) → eqb (length b - noise) (length b) ≡ t → cond t b (without_real_time b) ≡ without_real_time b
+      by_test true q = sym (all_kept b (omega (arith, kept_and_dropped b, size, eqb-true (length b - noise) (length b) q)))
+      by_test false q = refl
+
+  pub counted_size : length b - noise ≡ length (content_by (length b - noise) b)
+  counted_size = size ∙ sym (ap length counted_left)
 
 pub content_within : (count : ℕ) (b : List ℕ) → length (content_by count b) ≤ length b
 content_within count b = by_test (eqb count (length b))

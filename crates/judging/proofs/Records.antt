@@ -12,9 +12,8 @@ use Rattle.nibbles.specs.Nibbles.{pack}
 use Rattle.nibbles.proofs.Laws.{length_pack}
 use Rattle.messages.specs.Judge.{judge}
 use Rattle.messages.proofs.Accepted.{Accepted, accepted}
-use Rattle.judging.specs.declared.Judged.{Judged}
 use Rattle.judging.specs.code.Content.{sent_in}
-use Rattle.judging.specs.code.Judged.{judged, refused_by, recorded_as}
+use Rattle.judging.specs.code.Judged.{Judged, judged, refused_by, recorded_as}
 use Rattle.judging.proofs.Places.{sent_length}
 
 -- The packed bytes of an accepted message.

@@ -1,3 +1,4 @@
 pub mod Content
+pub mod Counted
 pub mod Judged
 pub mod Heard

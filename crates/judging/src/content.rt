@@ -1,25 +1,17 @@
 // A message's content, where it stands: what is between F0H and F7H, less the real time in it. It is not copied: real time is passed over
 // as its bytes are asked for, and a dump is packed from there.
-ghost use Rattle.std.specs.Prelude.{◌≡◌, true, ◌+◌, ◌*◌, ◌<◌, length, get_or};
+ghost use Rattle.std.specs.Prelude.{◌≡◌, true, ◌+◌, ◌*◌, ◌<◌, length, slice_get};
+ghost use Rattle.answers.specs.Refusals.{told_test};
 ghost use Rattle.streams.specs.Bytes.{without_real_time, real_time_in};
-ghost use Rattle.judging.specs.code.Content.{content_by, sent_in, FrontQuiet, StandsAt, LastAt, CountsContent, Gathers};
+ghost use Rattle.judging.specs.code.Content.{content_by, sent_in, FrontQuiet, StandsAt, LastAt, Gathers};
 
-use answers::DONE;
+use answers::Refusal;
 use frames::END;
-use ranges::Failed;
 
 // A dump's number stands behind maker, device and opcode, its data behind the number.
 pub(crate) const NUMBER: usize = 3;
 
 pub(crate) const FRONT: usize = NUMBER + 1;
-
-// How many bytes the content has: those of the body, less the real time in it, which the callers have counted.
-pub(crate) fn count_content(body: &[u8], noise: usize) -> usize
-    requires { noise ≡ real_time_in body.now }
-    ensures { CountsContent body.now result }
-{
-    body.len() - noise
-}
 
 // `true` only where no real time stands among the first four bytes, as mostly none does.
 fn front_quiet(body: &[u8]) -> bool
@@ -31,7 +23,7 @@ fn front_quiet(body: &[u8]) -> bool
     body[0] | body[1] | body[2] | body[3] < 0x80
 }
 
-// Where a byte of the content stands among real time. The callers below have seen that there is one.
+// Where a byte of what is left of a body without its real time stands in it. The callers below have seen that there is one.
 fn place_of(body: &[u8], i: usize) -> usize
     requires { i < length (without_real_time body.now) }
     ensures { StandsAt body.now i result }
@@ -42,10 +34,8 @@ fn place_of(body: &[u8], i: usize) -> usize
         }
     }
     let mut at = frames::past_real_time(body, 0);
-    let mut k: usize = 0;
-    while k < i {
+    for _ in 0..i {
         at = frames::past_real_time(body, at + 1);
-        k += 1;
     }
     at
 }
@@ -62,28 +52,15 @@ fn last_place(body: &[u8]) -> usize
     last
 }
 
-// A byte of the content. The callers have counted it, and seen that it has that byte.
-pub(crate) fn byte_at(body: &[u8], count: usize, i: usize) -> u8
-    requires { (count ≡ length (content_by count body.now)) × (i < count) }
-    ensures { result ≡ get_or (content_by count body.now) i 0 }
-{
-    if count == body.len() {
-        return body[i];
-    }
-    if i + 1 == count {
-        return body[last_place(body)];
-    }
-    body[place_of(body, i)]
-}
-
-// A dump's data, packed from among real time: the first byte above 15, or the packed bytes. The caller below has seen that a byte stands
+// A dump's data, packed from among real time: 9 with the first byte above 15, or the packed bytes. The caller below has seen that a byte stands
 // behind them.
-fn gather(body: &[u8], packed: &mut [u8]) -> Failed
+fn gather(body: &[u8], packed: &mut [u8]) -> Result<(), Refusal>
     requires { 4 + 2 * length packed.old < length (without_real_time body.now) }
-    ensures { Gathers (sent_in (length packed.old) (without_real_time body.now)) packed.new result }
+    ensures { Gathers (sent_in (length packed.old) (without_real_time body.now)) packed.new (told_test result) }
 {
     let mut at = place_of(body, NUMBER) + 1;
     let mut k: usize = 0;
+    // Neither the place nor the count of what is packed grows by one in each turn.
     while k < packed.len() {
         let low = body[at];
         let high = body[at + 1];
@@ -96,34 +73,95 @@ fn gather(body: &[u8], packed: &mut [u8]) -> Failed
             at += 1;
         } else {
             if 15 < low {
-                return Failed::At(2 * k);
+                return Err(Refusal::WideData(2 * k));
             }
             let next = frames::past_real_time(body, at + 1);
             let second = body[next];
             if 15 < second {
-                return Failed::At(2 * k + 1);
+                return Err(Refusal::WideData(2 * k + 1));
             }
             packed[k] = low + 16 * second;
             at = next + 1;
             k += 1;
         }
     }
-    Failed::Nowhere
+    Ok(())
 }
 
-// A dump's data, packed: the first byte above 15, or the packed bytes. The callers have counted the content, and seen that it has a byte
-// behind them.
-pub(crate) fn pack_data(body: &[u8], count: usize, packed: &mut [u8]) -> Failed
-    requires { (count ≡ length (content_by count body.now)) × (4 + 2 * length packed.old < count) }
-    ensures { Gathers (sent_in (length packed.old) (content_by count body.now)) packed.new result }
+// Data bytes, packed into a room that fits them: 9 with the first one above 15, or the packed bytes. Its callers have seen that they fit.
+pub(crate) fn pack_sent(sent: &[u8], packed: &mut [u8]) -> Result<(), Refusal>
+    requires { length sent.now ≡ 2 * length packed.old }
+    ensures { Gathers sent.now packed.new (told_test result) }
 {
-    if count != body.len() {
-        return gather(body, packed);
+    nibbles::pack_into(sent, packed)?;
+    Ok(())
+}
+
+// A content: the body in which it stands, and how many bytes it has.
+#[derive(Clone, Copy)]
+pub(crate) struct Content<'a> {
+    pub(crate) body: &'a [u8],
+    count: usize,
+    ghost counted: { count ≡ length (content_by count body.now) },
+}
+
+impl<'a> Content<'a> {
+    // That of a body in which the callers have counted so many bytes of real time.
+    pub(crate) fn of(body: &'a [u8], noise: usize) -> Content<'a>
+        requires { noise ≡ real_time_in body.now }
+        ensures { content_by result.count result.body.now ≡ without_real_time body.entry.now }
+    {
+        let count = body.len() - noise;
+        Content { body, count }
     }
-    let end = FRONT + 2 * packed.len();
-    let done = nibbles::pack_into(&body[FRONT..end], packed);
-    if done.answer != DONE {
-        return Failed::At(done.detail);
+
+    // One that was kept, without real time.
+    pub(crate) fn kept(body: &'a [u8]) -> Content<'a>
+        ensures { content_by result.count result.body.now ≡ body.entry.now }
+    {
+        let count = body.len();
+        Content { body, count }
     }
-    Failed::Nowhere
+
+    // How many bytes it has.
+    pub(crate) fn len(self) -> usize
+        ensures { result ≡ length (content_by self.entry.count self.entry.body.now) }
+    {
+        self.count
+    }
+
+    // No real time stands among it.
+    pub(crate) fn is_whole(self) -> bool
+        ensures { result ≡ true → content_by self.entry.count self.entry.body.now ≡ self.entry.body.now }
+    {
+        self.count == self.body.len()
+    }
+
+    // A byte of it, none behind the last.
+    pub(crate) fn get(self, i: usize) -> Option<u8>
+        ensures { result ≡ slice_get (content_by self.entry.count self.entry.body.now) i }
+    {
+        if self.count <= i {
+            return None;
+        }
+        if self.count == self.body.len() {
+            return Some(self.body[i]);
+        }
+        if i + 1 == self.count {
+            return Some(self.body[last_place(self.body)]);
+        }
+        Some(self.body[place_of(self.body, i)])
+    }
+
+    // A dump's data, packed: 9 with the first byte above 15, or the packed bytes. The callers have seen that it has a byte behind them.
+    pub(crate) fn pack(self, packed: &mut [u8]) -> Result<(), Refusal>
+        requires { 4 + 2 * length packed.old < length (content_by self.count self.body.now) }
+        ensures { Gathers (sent_in (length packed.old) (content_by self.entry.count self.entry.body.now)) packed.new (told_test result) }
+    {
+        if self.count != self.body.len() {
+            return gather(self.body, packed);
+        }
+        let end = FRONT + 2 * packed.len();
+        pack_sent(&self.body[FRONT..end], packed)
+    }
 }

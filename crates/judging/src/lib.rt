@@ -5,177 +5,128 @@ pub mod content;
 pub mod dumps;
 pub mod shorts;
 
-ghost use Rattle.std.specs.Prelude.{◌≡◌, ◌≤◌, length, take};
+ghost use Rattle.std.specs.Prelude.{◌≡◌};
 ghost use Rattle.answers.specs.Effect.{Gives};
-ghost use Rattle.answers.specs.Table.{outcome};
-ghost use Rattle.streams.specs.Bytes.{without_real_time, real_time_in, framed};
+ghost use Rattle.streams.specs.Bytes.{framed};
+ghost use Rattle.frames.specs.code.Extent.{span_of};
 ghost use Rattle.messages.specs.Kinds.{kind_of};
 ghost use Rattle.messages.specs.Judge.{judge};
-ghost use Rattle.judging.specs.code.Content.{content_by};
-ghost use Rattle.judging.specs.code.Judged.{kind_verdict, judged, judged_as, refused_by, recorded_as};
-ghost use Rattle.judging.specs.code.Heard.{heard_from, recorded_from};
+ghost use Rattle.judging.specs.code.Counted.{content_of};
+ghost use Rattle.judging.specs.code.Judged.{kind_verdict, judged, told_judged, recorded_as};
+ghost use Rattle.judging.specs.code.Heard.{verdict_from, told_heard, heard_from, recorded_from};
 
-use crate::content::{byte_at, count_content, pack_data};
+use crate::content::Content;
 use crate::dumps::judge_dump;
 use crate::shorts::judge_short;
-use answers::{DONE, NO_ROOM, OTHER_DEVICE, OTHER_MAKER, OTHER_OPCODE, Outcome};
-use frames::Span;
+use answers::Refusal;
+use frames::{Ending, Span};
 use messages::kinds::{DEVICE, Kind, MAKER, kind_of};
 
-// An outcome, and the bytes that come with it: the number of a patch or a split, or those of an edit or an operation; zero where there are
-// none.
-#[derive(Clone, Copy)]
-pub struct Judged {
-    pub outcome: Outcome,
+// A message that is accepted: its opcode, and the bytes that come with it, the number of a patch or a split, or those of an edit or an operation;
+// zero where there are none.
+#[derive(Clone, Copy, Debug, PartialEq, Eq)]
+pub struct Accepted {
+    pub opcode: u8,
     pub bytes: [u8; 4],
 }
 
 // How far a message runs, and what it comes to.
-#[derive(Clone, Copy)]
+#[derive(Clone, Copy, Debug, PartialEq, Eq)]
 pub struct Heard {
     pub span: Span,
-    pub judged: Judged,
+    pub judged: Result<Accepted, Refusal>,
 }
 
-// Refused: no bytes come with the answer.
-pub(crate) fn refused(outcome: Outcome) -> Judged
-    ensures { result ≡ refused_by outcome }
-{
-    Judged {
-        outcome,
-        bytes: [0, 0, 0, 0],
-    }
-}
-
-// Refused by a number that has no detail.
-pub(crate) fn refused_by(answer: u8) -> Judged
-    ensures { result ≡ refused_by (outcome answer 0) }
-{
-    refused(answers::refused(answer, 0))
-}
-
-// Accepted: the detail is the opcode.
-pub(crate) fn accepted(opcode: u8, bytes: [u8; 4]) -> Judged
-    ensures { result ≡ judged_as opcode bytes }
-{
-    Judged {
-        outcome: answers::done(opcode as usize),
-        bytes,
-    }
-}
-
-// The kind by its opcode, 6 for any other. The caller below has counted the content.
-fn judge_kind(opcode: u8, body: &[u8], count: usize) -> Judged
-    requires { count ≡ length (content_by count body.now) }
-    ensures { result ≡ judged (kind_verdict (kind_of opcode) (framed (content_by count body.now))) }
+// The kind by its opcode, 6 for any other.
+fn judge_kind(opcode: u8, content: Content) -> Result<Accepted, Refusal>
+    ensures { told_judged result ≡ judged (kind_verdict (kind_of opcode) (framed (content_of content.entry))) }
 {
     let kind = kind_of(opcode);
     match kind {
-        Kind::Dump(dump) => judge_dump(dump, body, count),
-        Kind::Short(short) => judge_short(short, body, count),
-        Kind::Unknown => refused_by(OTHER_OPCODE),
+        Kind::Dump(dump) => judge_dump(dump, content),
+        Kind::Short(short) => judge_short(short, content),
+        Kind::Unknown => Err(Refusal::OtherOpcode),
     }
 }
 
-// What a complete message comes to, by document 01's table from 4 on. The callers below have counted its content.
-fn judge_content(body: &[u8], count: usize) -> Judged
-    requires { count ≡ length (content_by count body.now) }
-    ensures { result ≡ judged (judge (framed (content_by count body.now))) }
+// What a complete message comes to, by document 01's table from 4 on.
+fn judge_content(content: Content) -> Result<Accepted, Refusal>
+    ensures { told_judged result ≡ judged (judge (framed (content_of content.entry))) }
 {
-    if count < 1 {
-        return refused_by(OTHER_MAKER);
+    if content.get(0) != Some(MAKER) {
+        return Err(Refusal::OtherMaker);
     }
-    if byte_at(body, count, 0) != MAKER {
-        return refused_by(OTHER_MAKER);
+    if content.get(1) != Some(DEVICE) {
+        return Err(Refusal::OtherDevice);
     }
-    if count < 2 {
-        return refused_by(OTHER_DEVICE);
-    }
-    if byte_at(body, count, 1) != DEVICE {
-        return refused_by(OTHER_DEVICE);
-    }
-    if count < 3 {
-        return refused_by(OTHER_OPCODE);
-    }
-    judge_kind(byte_at(body, count, 2), body, count)
+    let opcode = content.get(2).ok_or(Refusal::OtherOpcode)?;
+    judge_kind(opcode, content)
 }
 
-// What a complete message comes to, from what stands between F0H and F7H. The caller below has counted the real time there.
-fn judge_body(body: &[u8], noise: usize) -> Judged
-    requires { noise ≡ real_time_in body.now }
-    ensures { result ≡ judged (judge (framed (without_real_time body.now))) }
+// The same with its packed bytes at the start of a lent buffer: as judged, then 13. Refused, the buffer keeps every byte.
+fn record_content(content: Content, buffer: &mut [u8]) -> Result<Accepted, Refusal>
+    ensures { Gives (recorded_as (judge (framed (content_of content.entry))) buffer.old) (told_judged result) buffer.new }
 {
-    judge_content(body, count_content(body, noise))
-}
-
-// The same of the first n bytes of `rest`, with its packed bytes at the start of a lent buffer: as judged, then 13. Refused, the buffer keeps
-// every byte. The callers below have counted its content.
-fn record_content(rest: &[u8], n: usize, count: usize, buffer: &mut [u8]) -> Judged
-    requires { (n ≤ length rest.now) × (count ≡ length (content_by count (take n rest.now))) }
-    ensures { Gives (recorded_as (judge (framed (content_by count (take n rest.now)))) buffer.old) result buffer.new }
-{
-    let j = judge_content(&rest[..n], count);
-    if j.outcome.answer != DONE {
-        return j;
-    }
-    let size = kind_of(byte_at(&rest[..n], count, 2)).packed_size();
+    let accepted = judge_content(content)?;
+    let size = kind_of(accepted.opcode).packed_size();
     if buffer.len() < size {
-        return refused_by(NO_ROOM);
+        return Err(Refusal::NoRoom);
     }
     if 0 < size {
-        pack_data(&rest[..n], count, &mut buffer[..size]);
+        content.pack(&mut buffer[..size])?;
     }
-    j
-}
-
-// The same from what stands between F0H and F7H, the first n bytes of `rest`. The caller below has counted the real time there.
-fn record_body(rest: &[u8], n: usize, noise: usize, buffer: &mut [u8]) -> Judged
-    requires { (n ≤ length rest.now) × (noise ≡ real_time_in (take n rest.now)) }
-    ensures { Gives (recorded_as (judge (framed (without_real_time (take n rest.now)))) buffer.old) result buffer.new }
-{
-    record_content(rest, n, count_content(&rest[..n], noise), buffer)
+    Ok(accepted)
 }
 
 // The same from a content that was kept: what stood between F0H and F7H, no real time among it.
-pub fn record_kept(content: &[u8], buffer: &mut [u8]) -> Judged
-    ensures { Gives (recorded_as (judge (framed content.now)) buffer.old) result buffer.new }
+pub fn record_kept(kept: &[u8], buffer: &mut [u8]) -> Result<Accepted, Refusal>
+    ensures { Gives (recorded_as (judge (framed kept.now)) buffer.old) (told_judged result) buffer.new }
 {
-    let count = content.len();
-    record_content(content, count, count, buffer)
+    record_content(Content::kept(kept), buffer)
+}
+
+// What a message comes to by how it ends: the bytes behind its F0H, of which the caller below has the span.
+fn judge_span(span: Span, rest: &[u8]) -> Result<Accepted, Refusal>
+    requires { span ≡ span_of rest.now }
+    ensures { told_judged result ≡ judged (verdict_from rest.now) }
+{
+    match span.ending {
+        Ending::Whole => judge_content(Content::of(&rest[..span.length], span.noise)),
+        Ending::Interrupted => Err(Refusal::Interrupted),
+        Ending::Cut => Err(Refusal::Cut),
+    }
+}
+
+// The same with its packed bytes.
+fn record_span(span: Span, rest: &[u8], buffer: &mut [u8]) -> Result<Accepted, Refusal>
+    requires { span ≡ span_of rest.now }
+    ensures { Gives (recorded_as (verdict_from rest.now) buffer.old) (told_judged result) buffer.new }
+{
+    match span.ending {
+        Ending::Whole => record_content(Content::of(&rest[..span.length], span.noise), buffer),
+        Ending::Interrupted => Err(Refusal::Interrupted),
+        Ending::Cut => Err(Refusal::Cut),
+    }
 }
 
 // The message whose F0H stands just before `rest`: how far it runs, and what it comes to, by document 01's table from 2 on.
 pub fn judge_from(rest: &[u8]) -> Heard
-    ensures { result ≡ heard_from rest.now }
+    ensures { told_heard result ≡ heard_from rest.now }
 {
     let span = frames::find_end(rest);
-    if span.ending != DONE {
-        return Heard {
-            span,
-            judged: refused_by(span.ending),
-        };
-    }
-    let n = span.length;
     Heard {
         span,
-        judged: judge_body(&rest[..n], span.noise),
+        judged: judge_span(span, rest),
     }
 }
 
 // The same with its packed bytes at the start of a lent buffer: as judged, then 13. Refused, the buffer keeps every byte.
 pub fn record_from(rest: &[u8], buffer: &mut [u8]) -> Heard
-    ensures { Gives (recorded_from rest.now buffer.old) result buffer.new }
+    ensures { Gives (recorded_from rest.now buffer.old) (told_heard result) buffer.new }
 {
     let span = frames::find_end(rest);
-    if span.ending != DONE {
-        return Heard {
-            span,
-            judged: refused_by(span.ending),
-        };
-    }
-    let n = span.length;
     Heard {
         span,
-        judged: record_body(rest, n, span.noise, buffer),
+        judged: record_span(span, rest, buffer),
     }
 }

@@ -1,19 +1,15 @@
 -- A message's content among its real time: which bytes of its body it is, where each stands, and what packing a dump's data leaves.
-use Rattle.std.specs.Prelude.{◌≡◌, cond, List, ◌∷◌, ℕ, ◌+◌, ◌*◌, ◌-◌, ◌<◌, ◌≤◌, eqb, length, take, drop, get_or}
+use Rattle.std.specs.Prelude.{◌≡◌, cond, List, [], ◌∷◌, ℕ, ◌+◌, ◌*◌, ◌-◌, ◌<◌, ◌≤◌, eqb, length, take, drop, get_or}
 use Rattle.std.proofs.Math.Option.{none}
+use Rattle.answers.specs.declared.Outcome.{Outcome}
+use Rattle.answers.specs.Table.{row_at}
+use Rattle.answers.specs.Effect.{tested}
 use Rattle.streams.specs.Bytes.{without_real_time}
 use Rattle.nibbles.specs.Nibbles.{pack, first_wide}
-use Rattle.ranges.specs.declared.Failed.{Failed}
-use Rattle.ranges.specs.code.Found.{found_at}
 
 -- The content of a body by how many bytes it has: as it stands where it has them all.
 abbrev pub content_by : ℕ → List ℕ → List ℕ
 content_by count b = cond (eqb count (length b)) b (without_real_time b)
-
--- How many bytes the content has, and that they tell which it is.
-pub record CountsContent (b : List ℕ) (count : ℕ) : Type 0 where
-  pub same : content_by count b ≡ without_real_time b
-  pub counted : count ≡ length (content_by count b)
 
 -- Byte i of what is left of a body without its real time stands at place r, and the others behind it.
 pub record StandsAt (b : List ℕ) (i r : ℕ) : Type 0 where
@@ -37,7 +33,7 @@ sent_in size c = take (2 * size) (drop 4 c)
 abbrev pub sum_in : ℕ → List ℕ → ℕ
 sum_in size c = get_or c (4 + 2 * size) 0
 
--- What packing a dump's data d leaves: the first byte above 15 is told, or the packed bytes are there.
-pub record Gathers (d after : List ℕ) (r : Failed) : Type 0 where
-  pub found : r ≡ found_at (first_wide d)
+-- What packing a dump's data d leaves: 9 with the first byte above 15, or the packed bytes.
+pub record Gathers (d after : List ℕ) (r : Outcome) : Type 0 where
+  pub told : r ≡ tested (row_at 9 (first_wide d) ∷ [])
   pub packed : first_wide d ≡ none → after ≡ pack d

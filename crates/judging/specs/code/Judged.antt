@@ -1,11 +1,13 @@
 -- A verdict as the code answers it, and what the test of a dump's data leaves.
-use Rattle.std.specs.Prelude.{◌≡◌, List, [], ℕ}
+use Rattle.std.specs.Prelude.{◌≡◌, List, [], ℕ, Result, Ok, Err}
 use Rattle.answers.specs.declared.Outcome.{Outcome}
 use Rattle.answers.specs.Table.{Row, Verdict, done, refused, first, outcome, outcome_of, four}
 use Rattle.answers.specs.Effect.{Effect, tested, told_as}
 use Rattle.streams.specs.Stream.{Reading, read_into}
 use Rattle.nibbles.specs.Nibbles.{pack}
-use Rattle.judging.specs.declared.Judged.{Judged}
+use Rattle.answers.specs.declared.Refusal.{Refusal}
+use Rattle.answers.specs.Refusals.{outcome_by}
+use Rattle.judging.specs.declared.Accepted.{Accepted}
 use Rattle.judging.specs.code.Content.{sent_in, sum_in}
 use Rattle.messages.specs.declared.kinds.Kind.{Kind}
 use Rattle.messages.specs.declared.kinds.Packed.{Packed}
@@ -16,6 +18,11 @@ abbrev pub bytes_in : Verdict → List ℕ
 bytes_in (done op b p) = b
 bytes_in (refused o) = []
 
+-- An outcome, and the bytes that come with it as four.
+pub record Judged : Type 0 where
+  pub outcome : Outcome
+  pub bytes : List ℕ
+
 -- Its outcome, and the bytes that come with it, zero behind the last.
 abbrev pub judged : Verdict → Judged
 judged v = record { outcome = outcome_of v; bytes = four (bytes_in v) }
@@ -25,6 +32,11 @@ judged_as opcode b = record { outcome = outcome 0 opcode; bytes = b }
 
 abbrev pub refused_by : Outcome → Judged
 refused_by o = judged (refused o)
+
+-- What the code answers, as it is told: accepted, the detail is the opcode.
+abbrev pub told_judged : Result Accepted Refusal → Judged
+told_judged (Ok a) = judged_as a.opcode a.bytes
+told_judged (Err r) = refused_by (outcome_by r)
 
 -- What the test of a dump's data d and of the sum s behind them gave: its outcome, and when done the packed bytes.
 pub record Checked (d : List ℕ) (s : ℕ) (after : List ℕ) (r : Outcome) : Type 0 where
