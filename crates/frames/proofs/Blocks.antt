@@ -1,69 +1,100 @@
--- Blocks of bytes that hold nothing that is looked for leave the count to what stands behind them: byte by byte over the block.
-use Rattle.std.proofs.Common.{◌≡◌, ℕ, zero, suc, ◌+◌, ◌/◌, ◌<◌, ◌≤◌, false, eqb, List, [], ◌∷◌, ◌++◌, length, get_or, take, drop, refl, ap, ◌∙◌, le_trans, add-zero, lt_of_not-le, arith, drop-drop, take-add, below_more}
+-- Blocks of bytes one after the other: what each byte of the first blocks has, those of one more block have too.
+use Rattle.std.proofs.Common.{◌≡◌, ℕ, zero, suc, ◌+◌, ◌*◌, ◌/◌, ◌<◌, ◌≤◌, List, [], ◌∷◌, length, get_or, take, drop, refl, ap, ◌∙◌, add-zero, cond, eqb, drop_of_length-le, arith, lt_of_not-le, get_or-take, length-take, length-drop, drop-drop, take-add}
 use native.Mathlib.Decide.{dec_le}
-use lib.Bits.{bit_or, or_add_and, and_le_l, and_le_r}
-use borrow.Author.Tests.{eqb-false}
+use Rattle.std.specs.List.{All}
+use Rattle.std.specs.Simd.{first_chunks}
+use Rattle.std.proofs.Math.Nat.{mul-div-le, mul-le-mul_left}
+use Rattle.std.proofs.lemmas.List.{take_more, take-take}
+use Rattle.std.proofs.lemmas.List.Elements.{All-append, All-get_or, All-take, All-head, All-tail, All-weaker}
 use Rattle.streams.specs.Bytes.{body, real_time_in}
-use Rattle.frames.specs.code.Blocks.{None, Ahead, Ends, Onward, heard_among}
-use Rattle.streams.proofs.Noise.{noise_none, noise_one, noise_more, noise_other, noise_append}
-use Rattle.frames.proofs.Extent.{split, ahead_other, body_goes}
+use Rattle.streams.proofs.Bytes.{goes_on, body_on, body_within}
+use Rattle.streams.proofs.Noise.{noise_none, noise_one, noise_more, noise_other, noise_append, kept_and_dropped}
+use Rattle.frames.specs.declared.Span.{Span}
+use Rattle.frames.specs.declared.Ending.{Ending}
+use Rattle.frames.specs.declared.Ending.TheVariants.{Whole, Interrupted, Cut}
+use Rattle.frames.specs.code.Extent.{span_of, ending_of}
+use Rattle.frames.specs.code.Blocks.{Goes, Onward}
+use Rattle.frames.proofs.Extent.{split, body_goes, body_ended, body_end}
 
--- A flag that no byte has set so far, and one byte more.
-pub flag_more : (P : ℕ → Type 0) (s : List ℕ) (at j found : ℕ) → (found ≡ 0 → None P at j s) → (P (get_or s (at + j) 0) → ⊥) → found ≡ 0 → None P at (j + 1) s
-flag_more P s at j found h n z = below_more (λ (k : ℕ). P (get_or s (at + k) 0) → ⊥) j (h z) n
+length-first_chunks : (n k : ℕ) (s : List ℕ) → length (first_chunks n k s) ≡ k
+length-first_chunks n zero s = refl
+length-first_chunks n (suc k) s = ap suc (length-first_chunks n k (drop n s))
 
--- A flag that is 0 or 1, tested for 1.
-pub flag_clear : (found : ℕ) → found ≤ 1 → eqb found 1 ≡ false → found ≡ 0
-flag_clear found h e = let n = eqb-false found 1 e in by_flag found h n
-  where
-    by_flag : (x : ℕ) → x ≤ 1 → (x ≡ 1 → ⊥) → x ≡ 0
-    by_flag zero h n = refl
-    by_flag (suc zero) h n = absurd (n refl)
-    by_flag (suc (suc x)) h n = absurd (omega arith)
+-- The block at an index.
+block_at : (n k i : ℕ) (s : List ℕ) → i < k → get_or (first_chunks n k s) i [] ≡ take n (drop (n * i) s)
+block_at n zero i s h = absurd (omega arith)
+block_at n (suc k) zero s h = let z : n * 0 ≡ 0 = omega arith in rw z
+block_at n (suc k) (suc i) s h =
+    let e : n + n * i ≡ n * suc i = omega arith in block_at n k i (drop n s) (omega arith) ∙ rw (drop-drop (n * i) n s, e)
 
--- Numbers put together bit by bit are no less than either.
-pub or_left : (a b : ℕ) → a ≤ bit_or a b
-or_left a b = omega (arith, or_add_and a b, and_le_r a b)
+block_is : (n k i : ℕ) (s : List ℕ) (blocks : List (List ℕ)) → blocks ≡ first_chunks n k s → i < length blocks
+    → get_or blocks i [] ≡ take n (drop (n * i) s)
+block_is n k i s blocks e h =
+    ap (λ (l : List (List ℕ)). get_or l i []) e ∙ block_at n k i s (omega (arith, ap length e, length-first_chunks n k s))
 
-pub or_right : (a b : ℕ) → b ≤ bit_or a b
-or_right a b = omega (arith, or_add_and a b, and_le_l a b)
+pub block_more : (P : ℕ → Type 0) (n k i : ℕ) (s : List ℕ) (blocks : List (List ℕ)) → blocks ≡ first_chunks n k s → i < length blocks
+    → All P (take (n * i) s) → All P (get_or blocks i []) → All P (take (n * (i + 1)) s)
+block_more P n k i s blocks e h before here =
+    let block = block_is n k i s blocks e h in
+    let next : n * i + n ≡ n * (i + 1) = omega arith in
+    rw (← next, take-add) (All-append P (take (n * i) s) (take n (drop (n * i) s)) before (rw block at here))
 
--- Each of the first n bytes from index i on is at most a number.
-abbrev pub Upto : ℕ → ℕ → ℕ → List ℕ → Type 0
-Upto a i n s = (j : ℕ) → j < n → get_or s (i + j) 0 ≤ a
+-- Bytes over which the message goes on leave its body to what stands behind them, and the real time among them is counted.
+pub onward_past : (s : List ℕ) (n : ℕ) → n ≤ length s → All Goes (take n s) → Onward s n (real_time_in (take n s))
+onward_past s zero h a = rw noise_none (record { within = omega arith; fewer = omega arith; counted = omega arith; heard = omega arith })
+onward_past [] (suc n) h a = absurd (omega arith)
+onward_past (b ∷ s) (suc n) h a =
+    let goes : Goes b = All-head Goes b (take n s) a in
+    let o = onward_past s n (omega arith) (All-tail Goes b (take n s) a) in
+    let e : body (b ∷ s) ≡ b ∷ body s = body_on b s (goes_on b (λ k l. goes (k, l))) in
+    let all = ap real_time_in e ∙ noise_append (b ∷ []) (body s) in
+    record {
+      within = omega arith;
+      fewer = omega (arith, o.fewer, noise_one b, noise_append (b ∷ []) (take n s));
+      counted = omega (arith, o.counted, ap length e);
+      heard = omega (arith, o.heard, all, noise_append (b ∷ []) (take n s));
+    }
 
--- One byte more, its bits put to those of the number.
-pub upto_more : (s : List ℕ) (i n a : ℕ) → Upto a i n s → Upto (bit_or a (get_or s (i + n) 0)) i (n + 1) s
-upto_more s i n a h =
-    let b = get_or s (i + n) 0 in
-    below_more (λ (j : ℕ). get_or s (i + j) 0 ≤ bit_or a b) n (λ j k. le_trans (h j k) (or_left a b)) (or_right a b)
+-- Data bytes are no real time.
+quiet : (s : List ℕ) → All (λ b. b < 0x80) s → real_time_in s ≡ 0
+quiet [] a = noise_none
+quiet (b ∷ s) a =
+    let low : b < 0x80 = All-head (λ x. x < 0x80) b s a in noise_other b s (omega arith) ∙ quiet s (All-tail (λ x. x < 0x80) b s a)
 
--- What holds at index i, and goes on past each byte that is not looked for, holds behind n such bytes.
-past_block : (P : ℕ → Type 0) (s : List ℕ) (Q : ℕ → Type 0) → ((i : ℕ) → i < length s → (P (get_or s i 0) → ⊥) → Q i → Q (i + 1))
-    → (n i : ℕ) → i + n ≤ length s → None P i n s → Q i → Q (i + n)
-past_block P s Q on zero i h none q = rw (add-zero i) q
-past_block P s Q on (suc n) i h none q =
-    let next : (i + 1) + n ≡ i + suc n = omega arith in
-    let here : P (get_or s i 0) → ⊥ = λ e. none 0 (omega arith) (rw (add-zero i) e) in
-    let same : (j : ℕ) → i + suc j ≡ (i + 1) + j = λ j. omega arith in
-    rw next at (past_block P s Q on n (i + 1) (omega arith) (λ j k e. none (suc j) (omega arith) (rw (same j) e)) (on i (omega arith) here q))
+pub onward_quiet : (s : List ℕ) (n : ℕ) → n ≤ length s → All (λ b. b < 0x80) (take n s) → Onward s n 0
+onward_quiet s n h a =
+    let none = quiet (take n s) a in
+    let goes = All-weaker (λ b. b < 0x80) Goes (λ b low e. omega (arith, low, e.0)) (take n s) a in
+    rw none at (onward_past s n h goes)
 
+-- First some bytes, then some of what is left.
+pub onward_then : (s : List ℕ) (i j m n : ℕ) → Onward s i m → Onward (drop i s) j n → Onward s (i + j) (m + n)
+onward_then s i j m n o p =
+    let same : drop j (drop i s) ≡ drop (i + j) s = drop-drop j i s in
+    record {
+      within = omega (arith, o.within, p.within, length-drop i s);
+      fewer = omega (arith, o.fewer, p.fewer);
+      counted = omega (arith, o.counted, p.counted, ap (λ (t : List ℕ). length (body t)) same);
+      heard = omega (arith, o.heard, p.heard, ap (λ (t : List ℕ). real_time_in (body t)) same);
+    }
+
+-- One block more.
+pub onward_block : (n i : ℕ) (s : List ℕ) (blocks : List (List ℕ)) (m k : ℕ) → blocks ≡ first_chunks n (length s / n) s → i < length blocks
+    → Onward s (n * i) m → All Goes (get_or blocks i []) → k ≡ real_time_in (get_or blocks i []) → Onward s (n * (i + 1)) (m + k)
+onward_block n i s blocks m k e h o goes heard =
+    let b = block_is n (length s / n) i s blocks e h in
+    let next : n * i + n ≡ n * (i + 1) = omega arith in
+    let within : i + 1 ≤ length s / n = omega (arith, ap length e, length-first_chunks n (length s / n) s) in
+    let room : n ≤ length (drop (n * i) s) =
+    omega (arith, mul-le-mul_left n within, mul-div-le (length s) n, length-drop (n * i) s) in
+    rw (← next, heard, b) (onward_then s (n * i) n m (real_time_in (take n (drop (n * i) s))) o (onward_past (drop (n * i) s) n room (rw b at goes)))
+
+-- One byte more, a data byte or real time.
 module _ (s : List ℕ) where
-  pub ahead_none : Ahead s 0
-  ahead_none = record { within = omega arith; left = omega arith }
-
-  -- One byte that is not F0H.
-  ahead_on : (i : ℕ) → i < length s → (get_or s i 0 ≡ 0xF0 → ⊥) → Ahead s i → Ahead s (i + 1)
-  ahead_on i h n a = record { within = omega arith; left = omega (arith, a.left, ahead_other s i h n) }
-
-  pub ahead_more : (i : ℕ) → i + 16 ≤ length s → Ahead s i → None (λ b. b ≡ 0xF0) i 16 s → Ahead s (i + 16)
-  ahead_more i h a none = past_block (λ b. b ≡ 0xF0) s (Ahead s) ahead_on 16 i h none a
-
   pub onward_none : Onward s 0 0
   onward_none = record { within = omega arith; fewer = omega arith; counted = omega arith; heard = omega arith }
 
-  -- One byte that does not end the message.
-  pub onward_on : (i n : ℕ) → i < length s → (Ends (get_or s i 0) → ⊥) → Onward s i n → Onward s (i + 1) (n + real_time_in (get_or s i 0 ∷ []))
+  onward_on : (i n : ℕ) → i < length s → Goes (get_or s i 0) → Onward s i n → Onward s (i + 1) (n + real_time_in (get_or s i 0 ∷ []))
   onward_on i n h goes o =
       let b = get_or s i 0 in
       let t = body (drop (i + 1) s) in
@@ -75,48 +106,67 @@ module _ (s : List ℕ) where
         heard = omega (arith, o.heard, ap real_time_in e, noise_append (b ∷ []) t);
       }
 
-  -- A data byte is not counted.
-  pub onward_data : (i n : ℕ) → i < length s → (0x80 ≤ get_or s i 0 → ⊥) → Onward s i n → Onward s (i + 1) n
+  pub onward_data : (i n : ℕ) → i < length s → get_or s i 0 ≤ 0x7F → Onward s i n → Onward s (i + 1) n
   onward_data i n h low o =
-      let none = noise_other (get_or s i 0) [] (omega (arith, lt_of_not-le low)) ∙ noise_none in
-      rw (none, add-zero n) at (onward_on i n h (λ e. low e.0) o)
+      let none = noise_other (get_or s i 0) [] (omega arith) ∙ noise_none in
+      rw (none, add-zero n) at (onward_on i n h (λ e. omega (arith, e.0, low)) o)
 
-  -- Real time is.
   pub onward_noise : (i n : ℕ) → i < length s → 0xF7 < get_or s i 0 → Onward s i n → Onward s (i + 1) (n + 1)
   onward_noise i n h high o =
       let one = noise_more (get_or s i 0) [] high ∙ ap suc noise_none in
       rw one at (onward_on i n h (λ e. omega (arith, e.1)) o)
 
-  pub onward_quiet : (i : ℕ) → i + 16 ≤ length s → Onward s i 0 → None (λ b. 0x80 ≤ b) i 16 s → Onward s (i + 16) 0
-  onward_quiet i h o none = past_block (λ b. 0x80 ≤ b) s (λ j. Onward s j 0) (λ j. onward_data j 0) 16 i h none o
+  -- The span by what is left: nothing of the body, before a byte that ends it or at the end of the bytes; or more of it.
+  left : (i n : ℕ) (e : Ending) → Onward s i n → body (drop i s) ≡ [] → ending_of (drop i s) ≡ e
+      → ◌≡◌ {A = Span} (record { length = i; noise = n; ending = e }) (span_of s)
+  unfolding span_of
+  left i n e o none end =
+      let l : length (body s) ≡ i = omega (arith, o.counted, ap length none) in
+      let k : real_time_in (body s) ≡ n = omega (arith, o.heard, ap real_time_in none ∙ noise_none) in
+      rw (l, k, end)
 
-  -- One byte more of a block.
-  pub heard_next : (i j : ℕ) → i + j < length s → heard_among i (j + 1) s ≡ heard_among i j s + real_time_in (get_or s (i + j) 0 ∷ [])
-  heard_next i j h =
-      let last : take 1 (drop j (drop i s)) ≡ get_or s (i + j) 0 ∷ [] = rw (drop-drop j i s, split s (i + j) h) in
-      let more : take (j + 1) (drop i s) ≡ take j (drop i s) ++ (get_or s (i + j) 0 ∷ []) = take-add j 1 (drop i s) ∙ rw last in
-      ap real_time_in more ∙ noise_append (take j (drop i s)) (get_or s (i + j) 0 ∷ [])
+  pub span_ends : (i n : ℕ) (e : Ending) → Onward s i n → i < length s → 0x7F < get_or s i 0 → get_or s i 0 ≤ 0xF7
+      → e ≡ cond (eqb (get_or s i 0) 0xF7) Whole Interrupted → ◌≡◌ {A = Span} (record { length = i; noise = n; ending = e }) (span_of s)
+  span_ends i n e o h k l end = left i n e o (body_ended s i h (omega arith) l) (rw (split s i h, end))
 
-  pub onward_more : (n i k : ℕ) → i + n ≤ length s → None Ends i n s → Onward s i k → Onward s (i + n) (k + heard_among i n s)
-  onward_more zero i k h none o = rw (noise_none, add-zero k, add-zero i) o
-  onward_more (suc n) i k h none o =
-      let before = onward_more n i k (omega arith) (λ j m. none j (omega arith)) o in
-      let here = onward_on (i + n) (k + heard_among i n s) (omega arith) (none n (omega arith)) before in
-      let next : i + n + 1 ≡ i + suc n = omega arith in
-      let one : n + 1 ≡ suc n = omega arith in
-      let all : k + heard_among i n s + real_time_in (get_or s (i + n) 0 ∷ []) ≡ k + heard_among i (suc n) s =
-      omega (arith, rw one at (heard_next i n (omega arith))) in
-      rw (next, all) at here
+  pub span_cut : (i n : ℕ) → Onward s i n → length s ≤ i → ◌≡◌ {A = Span} (record { length = length s; noise = n; ending = Cut }) (span_of s)
+  span_cut i n o h =
+      let whole : i ≡ length s = omega (arith, o.within) in
+      rw whole at (left i n Cut o (body_end s i h) (rw (drop_of_length-le s h)))
 
--- A byte that does not end a message: 80H and above is real time, and its quotient by 128 counts it.
-pub noise_quotient : (b : ℕ) → b < 256 → (Ends b → ⊥) → real_time_in (b ∷ []) ≡ b / 128
-noise_quotient b h n = by_size (dec_le 0x80 b)
+  pub span_past : (i n : ℕ) → Onward s i n → ◌≡◌ {A = Span} (let t = span_of (drop i s) in record { length = i + t.length; noise = n + t.noise; ending = t.ending }) (span_of s)
+  unfolding span_of
+  span_past i n o = rw (o.counted, o.heard, drop-drop (length (body (drop i s))) i s)
+
+  -- No more bytes are counted than there are.
+  pub span_length : (span_of s).length ≤ length s
+  unfolding span_of
+  span_length = body_within s
+
+  pub span_noise : (span_of s).noise ≤ length s
+  unfolding span_of
+  span_noise = omega (arith, kept_and_dropped (body s), body_within s)
+
+pub all_before : (P : ℕ → Type 0) (s : List ℕ) (i : ℕ) → All P (take (i + 1) s) → All P (take i s)
+all_before P s i a =
+    let fewer : i ≤ i + 1 = omega arith in rw take-take at (All-take P i (take (i + 1) s) a)
+
+-- One byte more of a block that goes on: 80H and above is real time, and its quotient by 128 counts it.
+quotient : (b : ℕ) → b < 256 → Goes b → real_time_in (b ∷ []) ≡ b / 128
+quotient b h goes = by_size (dec_le 0x80 b)
   where
     by_size : Dec (0x80 ≤ b) → real_time_in (b ∷ []) ≡ b / 128
     by_size (yes k) =
-        let high : 0xF7 < b = lt_of_not-le (λ l. n (k, l)) in
-        let quotient : b / 128 ≡ 1 = omega arith in
-        rw quotient (noise_more b [] high ∙ ap suc noise_none)
+        let high : 0xF7 < b = lt_of_not-le (λ l. goes (k, l)) in
+        let one : b / 128 ≡ 1 = omega arith in
+        rw one (noise_more b [] high ∙ ap suc noise_none)
     by_size (no k) =
-        let quotient : b / 128 ≡ 0 = omega (arith, k) in
-        rw quotient (noise_other b [] (omega (arith, k)) ∙ noise_none)
+        let none : b / 128 ≡ 0 = omega (arith, k) in
+        rw none (noise_other b [] (omega (arith, k)) ∙ noise_none)
+
+pub noise_next : (s : List ℕ) (i : ℕ) → i < length s → get_or s i 0 < 256 → All Goes (take (i + 1) s)
+    → real_time_in (take (i + 1) s) ≡ real_time_in (take i s) + get_or s i 0 / 128
+noise_next s i h fits a =
+    let last : i < i + 1 = omega arith in
+    let here : Goes (get_or s i 0) = rw get_or-take at (All-get_or Goes (take (i + 1) s) i 0 (simp length-take (omega arith)) a) in
+    ap real_time_in (take_more s i 0 h) ∙ noise_append (take i s) (get_or s i 0 ∷ []) ∙ ap (λ (n : ℕ). real_time_in (take i s) + n) (quotient (get_or s i 0) fits here)

@@ -1,5 +1,5 @@
 -- What a call that is fed bytes takes, by the counts that the code has: from outside by the bytes before the first F0H, inside a message by its span.
-use Rattle.std.proofs.Common.{◌≡◌, ℕ, suc, ◌+◌, ◌<◌, ◌≤◌, Bool, true, false, cond, eqb, List, [], ◌∷◌, ◌++◌, length, take, drop, sym, refl, ap, ◌∙◌, add-zero, arith, length-take-le, eqb-true}
+use Rattle.std.proofs.Common.{◌≡◌, ℕ, suc, ◌+◌, ◌<◌, ◌≤◌, Bool, true, false, cond, eqb, List, [], ◌∷◌, ◌++◌, length, get_or, take, drop, sym, refl, ap, ◌∙◌, add-zero, arith, length-take-le, eqb-true}
 use mathlib.Core.Option.{none, some}
 use borrow.Author.Tests.{eqb-false}
 use Rattle.answers.specs.Table.{Verdict, refused, outcome}
@@ -12,21 +12,9 @@ use Rattle.streams.proofs.Noise.{kept_and_dropped}
 use Rattle.streams.proofs.Scan.{further, next_outside}
 use Rattle.streams.proofs.Feed.{past, taken_cut, taken_closed, taken_broken}
 use Rattle.frames.specs.declared.Span.{Span}
+use Rattle.frames.specs.declared.Ending.TheVariants.{Whole, Interrupted, Cut}
 use Rattle.frames.specs.code.Extent.{ahead, span_of, ending_of}
-
--- How a message ends, by what stands behind its body.
-data Behind (w : List ℕ) : Type 0 where
-  nothing : w ≡ [] → Behind w
-  close : (r : List ℕ) → w ≡ 0xF7 ∷ r → Behind w
-  other : (x : ℕ) (r : List ℕ) → w ≡ x ∷ r → (x ≡ 0xF7 → ⊥) → ending_of w ≡ 3 → Behind w
-
-behind : (w : List ℕ) → Behind w
-behind [] = nothing refl
-behind (x ∷ r) = by_test (eqb x 0xF7) refl
-  where
-    by_test : (v : Bool) → eqb x 0xF7 ≡ v → Behind (x ∷ r)
-    by_test true q = close r (rw (eqb-true x 0xF7 q))
-    by_test false q = other x r refl (eqb-false x 0xF7 q) (rw q)
+use Rattle.frames.proofs.Extent.{behind_cut, behind_whole, behind_interrupted}
 
 module _ (judge : List ℕ → Verdict) where
   -- Inside a message: its span says what is taken.
@@ -56,23 +44,9 @@ module _ (judge : List ℕ → Verdict) where
     pub span_heard : s.noise ≡ real_time_in (take s.length t)
     span_heard = span_noise ∙ rw span_body
 
-    -- A message that is neither interrupted nor cut is closed.
-    pub span_closed : (s.ending ≡ 3 → ⊥) → (s.ending ≡ 2 → ⊥) → s.ending ≡ 0
-    span_closed u v = go (behind (drop (length (body t)) t))
-      where
-        go : Behind (drop (length (body t)) t) → s.ending ≡ 0
-        go (nothing q) = absurd (v (span_ending ∙ ap ending_of q))
-        go (close r q) = span_ending ∙ ap ending_of q
-        go (other x r q m y) = absurd (u (span_ending ∙ y))
-
-    -- And one that is neither cut nor closed is interrupted.
-    pub span_broken : (s.ending ≡ 2 → ⊥) → (s.ending ≡ 0 → ⊥) → s.ending ≡ 3
-    span_broken u v = go (behind (drop (length (body t)) t))
-      where
-        go : Behind (drop (length (body t)) t) → s.ending ≡ 3
-        go (nothing q) = absurd (u (span_ending ∙ ap ending_of q))
-        go (close r q) = absurd (v (span_ending ∙ ap ending_of q))
-        go (other x r q m y) = span_ending ∙ y
+    -- What stands behind the body.
+    abbrev rest : List ℕ
+    rest = drop (length (body t)) t
 
     -- No more of them are real time than there are.
     pub span_quiet : s.noise ≤ s.length
@@ -82,35 +56,20 @@ module _ (judge : List ℕ → Verdict) where
       abbrev pub whole : List ℕ
       whole = c ++ without_real_time (take s.length t)
 
-      pub fed_cut : s.ending ≡ 2 → taken judge p (inside f c k) t ≡ taking s.length (inside f whole (k + s.noise)) none
-      fed_cut z = go (behind (drop (length (body t)) t))
-        where
-          go : Behind (drop (length (body t)) t) → taken judge p (inside f c k) t ≡ taking s.length (inside f whole (k + s.noise)) none
-          go (nothing q) = taken_cut judge p f c k t q ∙ rw (span_body, span_length, span_noise)
-          go (close r q) = absurd (omega (arith, z, span_ending ∙ ap ending_of q))
-          go (other x r q m y) = absurd (omega (arith, z, span_ending, y))
+      pub fed_cut : s.ending ≡ Cut → taken judge p (inside f c k) t ≡ taking s.length (inside f whole (k + s.noise)) none
+      fed_cut z = taken_cut judge p f c k t (behind_cut rest (sym span_ending ∙ z)) ∙ rw (span_body, span_length, span_noise)
 
-      pub fed_closed : s.ending ≡ 0
+      pub fed_closed : s.ending ≡ Whole
           → taken judge p (inside f c k) t ≡ taking (s.length + 1) outside (some (report f (p + (s.length + 1)) (judge (framed whole)) (k + s.noise)))
-      fed_closed z = go (behind (drop (length (body t)) t))
-        where
-          go : Behind (drop (length (body t)) t)
-              → taken judge p (inside f c k) t ≡ taking (s.length + 1) outside (some (report f (p + (s.length + 1)) (judge (framed whole)) (k + s.noise)))
-          go (nothing q) = absurd (omega (arith, z, span_ending ∙ ap ending_of q))
-          go (close r q) =
-              let end : suc (p + length (body t)) ≡ p + (length (body t) + 1) = omega arith in
-              taken_closed judge p f c k t r q ∙ rw (span_body, span_length, span_noise, end)
-          go (other x r q m y) = absurd (omega (arith, z, span_ending, y))
+      fed_closed z =
+          let end : suc (p + length (body t)) ≡ p + (length (body t) + 1) = omega arith in
+          taken_closed judge p f c k t (drop 1 rest) (behind_whole rest (sym span_ending ∙ z)) ∙ rw (span_body, span_length, span_noise, end)
 
-      pub fed_broken : (s.ending ≡ 2 → ⊥) → (s.ending ≡ 0 → ⊥)
+      pub fed_broken : s.ending ≡ Interrupted
           → taken judge p (inside f c k) t ≡ taking s.length outside (some (report f (p + s.length) (refused (outcome 3 0)) (k + s.noise)))
-      fed_broken u v = go (behind (drop (length (body t)) t))
-        where
-          go : Behind (drop (length (body t)) t)
-              → taken judge p (inside f c k) t ≡ taking s.length outside (some (report f (p + s.length) (refused (outcome 3 0)) (k + s.noise)))
-          go (nothing q) = absurd (u (span_ending ∙ ap ending_of q))
-          go (close r q) = absurd (v (span_ending ∙ ap ending_of q))
-          go (other x r q m y) = taken_broken judge p f c k t x r q m ∙ rw (span_length, span_noise)
+      fed_broken z =
+          let b = behind_interrupted rest (sym span_ending ∙ z) in
+          taken_broken judge p f c k t (get_or rest 0 0) (drop 1 rest) b.0 b.1 ∙ rw (span_length, span_noise)
 
   -- Outside a message all is taken where there is no F0H.
   pub fed_none : (t : List ℕ) (p : ℕ) → length t ≤ ahead t → taken judge p outside t ≡ taking (length t) outside none

@@ -1,10 +1,12 @@
 -- The walk by counts: how many bytes stand before the first F0H, and how the message there ends.
 -- The walk goes by the bytes before the F0H; the message by what stands behind its body.
-use Rattle.std.proofs.Common.{◌≡◌, ℕ, suc, ◌+◌, ◌<◌, ◌≤◌, Bool, true, false, cond, eqb, List, [], ◌∷◌, length, drop, refl, ◌∙◌, add-zero, arith, length-drop, drop-drop, eq-eqb, ne_eqb, eqb-true}
+use Rattle.std.proofs.Common.{◌≡◌, ℕ, suc, ◌+◌, ◌<◌, ◌≤◌, Bool, true, false, cond, eqb, List, [], ◌∷◌, length, get_or, drop, refl, ◌∙◌, add-zero, arith, length-drop, drop-drop, eq-eqb, ne_eqb, eqb-true}
 use mathlib.Core.Option.{none, some}
 use Rattle.answers.specs.Table.{Verdict, refused, outcome}
 use Rattle.streams.specs.Bytes.{body, without_real_time, real_time_in, framed}
+use Rattle.frames.specs.declared.Ending.TheVariants.{Whole, Interrupted, Cut}
 use Rattle.frames.specs.code.Extent.{ahead, start_at, ending_of}
+use Rattle.frames.proofs.Extent.{behind_cut, behind_whole, behind_interrupted}
 use Rattle.streams.specs.Stream.{report, message_at, first_from, walk}
 use Rattle.streams.proofs.Scan.{further}
 use Rattle.streams.proofs.Walk.{cut_message, closed_message, interrupted_message}
@@ -44,28 +46,18 @@ module _ (judge : List ℕ → Verdict) where
         let e : p + suc (ahead (drop p s)) ≡ suc (p + ahead (drop p s)) = omega arith in
         first_found (drop p s) p (omega (arith, length-drop p s)) ∙ rw (drop-drop (suc (ahead (drop p s))) p s, e)
 
-  -- A message that is cut or interrupted, and one that is complete.
+  -- A message by how it ends.
   module _ (f : ℕ) (t : List ℕ) where
-    pub message_refused : (ending_of (drop (length (body t)) t) ≡ 0 → ⊥)
-        → message_at judge f t ≡ report f (suc f + length (body t)) (refused (outcome (ending_of (drop (length (body t)) t)) 0)) (real_time_in (body t))
-    message_refused n = by_end (drop (length (body t)) t) refl n
-      where
-        by_end : (r : List ℕ) → drop (length (body t)) t ≡ r → (ending_of r ≡ 0 → ⊥)
-            → message_at judge f t ≡ report f (suc f + length (body t)) (refused (outcome (ending_of r) 0)) (real_time_in (body t))
-        by_end [] e k = cut_message judge f t e
-        by_end (x ∷ r) e k =
-            let other : x ≡ 0xF7 → ⊥ = λ q. k (rw (eq-eqb x 0xF7 q)) in
-            rw (ne_eqb x 0xF7 other) (interrupted_message judge f t x r e other)
+    pub message_cut : ending_of (drop (length (body t)) t) ≡ Cut
+        → message_at judge f t ≡ report f (suc f + length (body t)) (refused (outcome 2 0)) (real_time_in (body t))
+    message_cut e = cut_message judge f t (behind_cut (drop (length (body t)) t) e)
 
-    pub message_complete : ending_of (drop (length (body t)) t) ≡ 0
+    pub message_interrupted : ending_of (drop (length (body t)) t) ≡ Interrupted
+        → message_at judge f t ≡ report f (suc f + length (body t)) (refused (outcome 3 0)) (real_time_in (body t))
+    message_interrupted e =
+        let w = drop (length (body t)) t in
+        let b = behind_interrupted w e in interrupted_message judge f t (get_or w 0 0) (drop 1 w) b.0 b.1
+
+    pub message_complete : ending_of (drop (length (body t)) t) ≡ Whole
         → message_at judge f t ≡ report f (suc (suc f + length (body t))) (judge (framed (without_real_time (body t)))) (real_time_in (body t))
-    message_complete k = by_end (drop (length (body t)) t) refl k
-      where
-        closing : (x : ℕ) (v : Bool) → eqb x 0xF7 ≡ v → ◌≡◌ {A = ℕ} (cond v 0 3) 0 → x ≡ 0xF7
-        closing x true q k = eqb-true x 0xF7 q
-        closing x false q k = absurd (omega arith)
-
-        by_end : (r : List ℕ) → drop (length (body t)) t ≡ r → ending_of r ≡ 0
-            → message_at judge f t ≡ report f (suc (suc f + length (body t))) (judge (framed (without_real_time (body t)))) (real_time_in (body t))
-        by_end [] e k = absurd (omega arith)
-        by_end (x ∷ r) e k = let same = closing x (eqb x 0xF7) refl k in closed_message judge f t r (rw same at e)
+    message_complete e = let w = drop (length (body t)) t in closed_message judge f t (drop 1 w) (behind_whole w e)

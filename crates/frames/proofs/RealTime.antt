@@ -1,19 +1,15 @@
 -- Real time among bytes, a byte at a time: at an index of the bytes, as a loop has them; and what is left without it.
-use Rattle.std.proofs.Common.{◌≡◌, ℕ, suc, ◌+◌, ◌<◌, ◌≤◌, Bool, true, false, cond, List, [], ◌∷◌, length, get_or, drop, refl, arith, length-drop, drop_of_length-le, get_or-drop, drop-drop}
+use Rattle.std.proofs.Common.{◌≡◌, ℕ, suc, ◌+◌, ◌<◌, ◌≤◌, Bool, true, false, cond, ltb, List, [], ◌∷◌, length, get_or, drop, refl, add-zero, drop_of_length-le, lt_of_not-le, arith, length-drop, get_or-drop, drop-drop}
+use native.Mathlib.Decide.{dec_le}
+use borrow.Author.Tests.{lt-ltb, le-ltb}
+use Rattle.std.specs.List.{prefix_len}
+use Rattle.std.proofs.lemmas.List.Sums.{prefix_len-le-length}
 use Rattle.streams.specs.Bytes.{realTime, byte_kind, is_real_time, without_real_time}
 use Rattle.frames.specs.code.Extent.{real_time_ahead, past_real_time}
 use Rattle.streams.proofs.Bytes.{kind_is, stays}
 use Rattle.frames.proofs.Extent.{split}
 
 module _ (s : List ℕ) (i : ℕ) (h : i < length s) where
-  pub past_more : 0xF7 < get_or s i 0 → real_time_ahead (drop i s) ≡ suc (real_time_ahead (drop (i + 1) s))
-  unfolding real_time_ahead
-  past_more k = rw (split s i h) (simp (kind_is realTime _ k))
-
-  pub past_found : get_or s i 0 ≤ 0xF7 → real_time_ahead (drop i s) ≡ 0
-  unfolding real_time_ahead
-  past_found k = rw (split s i h) (simp (stays _ k))
-
   -- Without real time the bytes from the index on begin behind it, or with the byte there.
   pub without_passed : 0xF7 < get_or s i 0 → without_real_time (drop i s) ≡ without_real_time (drop (i + 1) s)
   unfolding without_real_time
@@ -23,9 +19,24 @@ module _ (s : List ℕ) (i : ℕ) (h : i < length s) where
   unfolding without_real_time
   without_kept k = rw (split s i h) (simp (stays _ k))
 
-pub past_end : (s : List ℕ) (i : ℕ) → length s ≤ i → real_time_ahead (drop i s) ≡ 0
+-- The real time ahead is the front that is nothing else.
+pub real_time_ahead_is : (s : List ℕ) → real_time_ahead s ≡ prefix_len (ltb 0xF7) s
 unfolding real_time_ahead
-past_end s i h = rw (drop_of_length-le s h)
+real_time_ahead_is [] = refl
+real_time_ahead_is (b ∷ s) = by_kind (dec_le b 0xF7) (real_time_ahead_is s)
+  where
+    by_kind : Dec (b ≤ 0xF7) → real_time_ahead s ≡ prefix_len (ltb 0xF7) s
+        → cond (is_real_time (byte_kind b)) (suc (real_time_ahead s)) 0 ≡ cond (ltb 0xF7 b) (1 + prefix_len (ltb 0xF7) s) 0
+    by_kind (yes k) i = rw (stays b k, le-ltb 0xF7 b k)
+    by_kind (no k) i = rw (kind_is realTime b (lt_of_not-le k), lt-ltb 0xF7 b (lt_of_not-le k)) (omega arith)
+
+pub real_time_ahead_within : (s : List ℕ) → real_time_ahead s ≤ length s
+real_time_ahead_within s = omega (arith, real_time_ahead_is s, prefix_len-le-length (ltb 0xF7) s)
+
+-- Past the end no byte stands.
+pub past_end : (s : List ℕ) (p : ℕ) → length s ≤ p → past_real_time s p ≡ p
+unfolding past_real_time real_time_ahead
+past_end s p h = rw (drop_of_length-le s h) (add-zero p)
 
 -- The first byte that is not real time is the first that is kept, and the others that are kept stand behind it.
 pub record Next (s t : List ℕ) (r : ℕ) : Type 0 where

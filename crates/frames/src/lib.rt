@@ -1,85 +1,84 @@
 // Finding system exclusive messages in a stream of bytes: where one starts, how far it runs, its bytes past real time.
 #![tactic(auto)]
 
-ghost use Rattle.std.specs.Prelude.{◌≡◌, ◌+◌, ◌≤◌, false, length, if◌then◌else◌, nat_eq};
+ghost use Rattle.std.specs.Prelude.{◌≡◌, ◌+◌, ◌≤◌, true, length, take, not, if◌then◌else◌, nat_eq, nat_lt};
+ghost use Rattle.std.specs.List.{All, prefix_len};
+ghost use Rattle.streams.specs.Bytes.{real_time_in};
 ghost use Rattle.frames.specs.code.Extent.{ahead, start_at, span_of, past_real_time};
-ghost use Rattle.frames.specs.code.Blocks.{None, Ahead, Ends, Onward, heard_among};
-
-use answers::{CUT, DONE, INTERRUPTED};
+ghost use Rattle.frames.specs.code.Blocks.{Goes, Onward};
 
 // System exclusive, and end of exclusive: real time lies above it.
 pub const START: u8 = 0xF0;
 
 pub const END: u8 = 0xF7;
 
-// What stands behind an F0H: how many bytes before the first in 80H..F7H, how many of them are real time,
-// and the answer that their end gives: DONE for F7H, INTERRUPTED or CUT.
-#[derive(Clone, Copy)]
+// How a message ends: with an F7H, before another byte in 80H..F7H, or with the input.
+#[derive(Clone, Copy, Debug, PartialEq, Eq)]
+pub enum Ending {
+    Whole,
+    Interrupted,
+    Cut,
+}
+
+// What stands behind an F0H: how many bytes before the first in 80H..F7H, how many of them are real time, and how the message ends.
+#[derive(Clone, Copy, Debug, PartialEq, Eq)]
 pub struct Span {
     pub length: usize,
     pub noise: usize,
-    pub ending: u8,
+    pub ending: Ending,
 }
 
-// Whether an F0H stands first: messages mostly follow each other, and then no block has to be looked at.
-fn starts_at_once(rest: &[u8]) -> bool {
-    if 0 < rest.len() {
-        return rest[0] == START;
-    }
-    false
-}
-
-// `false` only where no F0H stands among the 16 bytes from `at` on: without a branch, so that they are seen at once. The caller below
-// has seen that there are 16.
-fn block_starts(bytes: &[u8], at: usize) -> bool
-    requires { at + 16 ≤ length bytes.now }
-    ensures { result ≡ false → None (λ b. b ≡ 0xF0) at 16 bytes.now }
+// How a byte in 80H..F7H ends the message before it.
+fn ended_by(b: u8) -> Ending
+    ensures { result ≡ (if nat_eq b 0xF7 then Ending.Whole else Ending.Interrupted) }
 {
-    let mut found: u8 = 0;
-    let mut j: usize = 0;
-    while j < 16 {
-        if bytes[at + j] == START {
-            found = 1;
-            j += 1;
-        } else {
-            j += 1;
-        }
+    if b == END {
+        Ending::Whole
+    } else {
+        Ending::Interrupted
     }
-    found == 1
 }
 
-// How far blocks of 16 without an F0H reach from the start, two in each turn.
-fn skip_blocks(rest: &[u8]) -> usize
-    ensures { Ahead rest.now result }
+// Whether each byte of a block passes: without a branch, so that they are seen at once.
+fn all_pass<F: Fn(u8) -> bool>(block: &[u8], passes: F) -> bool
+    requires { F.IsAlwaysCallable passes }
+    ensures { result ≡ true → All (λ b. F.post passes b true) block.now }
 {
-    let mut i: usize = 0;
-    if starts_at_once(rest) {
-        return i;
-    }
-    while i + 32 <= rest.len() {
-        if block_starts(rest, i) {
-            return i;
-        }
-        if block_starts(rest, i + 16) {
-            return i + 16;
-        }
-        i += 32;
-    }
-    i
+    block.iter().fold(true, |all, b| all & passes(*b))
 }
 
-// How many bytes stand before the first F0H; all of them where there is none.
+// How far blocks of 16 bytes that pass reach from the start.
+fn skip<F: Fn(u8) -> bool>(bytes: &[u8], passes: F) -> usize
+    requires { F.IsAlwaysCallable passes }
+    ensures within { result ≤ length bytes.now }
+    ensures passed { All (λ b. F.post passes b true) (take result bytes.now) }
+{
+    let (blocks, _) = bytes.as_chunks::<16>();
+    for (i, block) in blocks.iter().enumerate() {
+        if !all_pass(block, &passes) {
+            return 16 * i;
+        }
+    }
+    16 * blocks.len()
+}
+
+// How many bytes stand before the first F0H, byte by byte.
+fn count_ahead(rest: &[u8]) -> usize
+    ensures { result ≡ prefix_len (λ b. not (nat_eq b 0xF0)) rest.now }
+{
+    rest.iter().take_while(|b| **b != START).count()
+}
+
+// How many bytes stand before the first F0H; all of them where there is none. Messages mostly follow each other, and then no block has to
+// be looked at.
 pub fn find_start(rest: &[u8]) -> usize
     ensures { result ≡ ahead rest.now }
 {
-    let mut i: usize = skip_blocks(rest);
-    while i < rest.len() {
-        if rest[i] == START {
-            return i;
-        }
-        i += 1;
+    if rest.first() == Some(&START) {
+        return 0;
     }
-    i
+    let passed = skip(rest, |b| b != START);
+    passed + count_ahead(&rest[passed..])
 }
 
 // Where the first F0H at a place or later stands; no place of the input where there is none.
@@ -92,76 +91,20 @@ pub fn find_start_from(s: &[u8], place: usize) -> usize
     place + find_start(&s[place..])
 }
 
-// The answer that a byte in 80H..F7H gives the message that it ends.
-fn ending(b: u8) -> u8
-    ensures { result ≡ (if nat_eq b 0xF7 then 0 else 3) }
+// Whether a message goes on over a byte.
+fn goes_on(b: u8) -> bool
+    ensures { result ≡ true → Goes b }
 {
-    if b == END {
-        return DONE;
-    }
-    INTERRUPTED
+    (b < 0x80) | (END < b)
 }
 
-// `false` only where none of the 16 bytes from `at` on is above 7FH: put together bit by bit, they would be above it too. The caller
-// below has seen that there are 16.
-fn block_ends(bytes: &[u8], at: usize) -> bool
-    requires { at + 16 ≤ length bytes.now }
-    ensures { result ≡ false → None (λ b. 0x80 ≤ b) at 16 bytes.now }
-{
-    let mut all: u8 = 0;
-    let mut j: usize = 0;
-    while j < 16 {
-        all |= bytes[at + j];
-        j += 1;
-    }
-    0x7F < all
-}
-
-// How far blocks of 16 data bytes reach from the start.
-fn skip_data(rest: &[u8]) -> usize
-    ensures { Onward rest.now result 0 }
-{
-    let mut i: usize = 0;
-    while i + 16 <= rest.len() {
-        if block_ends(rest, i) {
-            return i;
-        }
-        i += 16;
-    }
-    i
-}
-
-// `false` only where none of the 32 bytes from `at` on is in 80H..F7H: these, and no others, come above 87H with 8 more, real time wraps.
-// The caller below has seen that there are 32.
-fn block_breaks(bytes: &[u8], at: usize) -> bool
-    requires { at + 32 ≤ length bytes.now }
-    ensures { result ≡ false → None Ends at 32 bytes.now }
-{
-    let mut found: u8 = 0;
-    let mut j: usize = 0;
-    while j < 32 {
-        let moved = std::num::wrapping_add_u8(bytes[at + j], 8);
-        if 0x87 < moved {
-            found = 1;
-            j += 1;
-        } else {
-            j += 1;
-        }
-    }
-    found == 1
-}
-
-// How many of the 32 bytes from `at` on are real time, where none of them ends a message: then those are the bytes from 80H on, and a
-// quotient counts them at once. The caller below has seen that there are 32.
-fn block_noise(bytes: &[u8], at: usize) -> u8
-    requires { at + 32 ≤ length bytes.now }
-    ensures { None Ends at 32 bytes.now → result ≡ heard_among at 32 bytes.now }
+// How many bytes of a block that goes on are real time: those from 80H on, and a quotient counts them at once.
+fn noise_in(block: &[u8; 32]) -> u8
+    ensures { All Goes block.now → result ≡ real_time_in block.now }
 {
     let mut n: u8 = 0;
-    let mut j: usize = 0;
-    while j < 32 {
-        n += bytes[at + j] / 128;
-        j += 1;
+    for b in block {
+        n += b / 128;
     }
     n
 }
@@ -173,74 +116,83 @@ struct Passed {
     noise: usize,
 }
 
-// Whether the message ends at a place: most do where their data bytes end, and then no block has to be looked at.
-fn ends_at(rest: &[u8], at: usize) -> bool {
-    if at < rest.len() {
-        let moved = std::num::wrapping_add_u8(rest[at], 8);
-        return 0x87 < moved;
-    }
-    true
-}
-
-// How far blocks of 32 bytes without an end reach behind the data bytes, and the real time in them. The caller below has passed the data bytes.
-fn skip_noisy(rest: &[u8], from: usize) -> Passed
-    requires { Onward rest.now from 0 }
+// How far blocks of 32 bytes without an end reach behind the data bytes, and the real time in them. Most messages end where their data bytes
+// end, and then no block has to be looked at.
+fn skip_noisy(rest: &[u8]) -> Passed
     ensures { Onward rest.now result.length result.noise }
 {
-    let mut i: usize = from;
     let mut noise: usize = 0;
-    if ends_at(rest, from) {
-        return Passed { length: i, noise };
+    match rest.first() {
+        Some(b) if goes_on(*b) => {}
+        _ => return Passed { length: 0, noise },
     }
-    while i + 32 <= rest.len() {
-        if block_breaks(rest, i) {
-            return Passed { length: i, noise };
+    let (blocks, _) = rest.as_chunks::<32>();
+    for (i, block) in blocks.iter().enumerate() {
+        if !all_pass(block, goes_on) {
+            return Passed {
+                length: 32 * i,
+                noise,
+            };
         }
-        noise += block_noise(rest, i) as usize;
-        i += 32;
+        noise += usize::from(noise_in(block));
     }
-    Passed { length: i, noise }
+    Passed {
+        length: 32 * blocks.len(),
+        noise,
+    }
+}
+
+// How far a message runs, byte by byte.
+fn span_by_bytes(rest: &[u8]) -> Span
+    ensures { result ≡ span_of rest.now }
+{
+    let mut noise: usize = 0;
+    for (i, b) in rest.iter().enumerate() {
+        if END < *b {
+            noise += 1;
+        } else if 0x7F < *b {
+            return Span {
+                length: i,
+                noise,
+                ending: ended_by(*b),
+            };
+        }
+    }
+    Span {
+        length: rest.len(),
+        noise,
+        ending: Ending::Cut,
+    }
 }
 
 // How far a message runs, from the bytes behind its F0H.
 pub fn find_end(rest: &[u8]) -> Span
     ensures { result ≡ span_of rest.now }
 {
-    let passed = skip_noisy(rest, skip_data(rest));
-    let mut i: usize = passed.length;
-    let mut noise: usize = passed.noise;
-    while i < rest.len() {
-        let b = rest[i];
-        if b < 0x80 {
-            i += 1;
-        } else if END < b {
-            noise += 1;
-            i += 1;
-        } else {
-            return Span {
-                length: i,
-                noise,
-                ending: ending(b),
-            };
-        }
-    }
+    let quiet = skip(rest, |b| b < 0x80);
+    let passed = skip_noisy(&rest[quiet..]);
+    let before = quiet + passed.length;
+    let last = span_by_bytes(&rest[before..]);
     Span {
-        length: i,
-        noise,
-        ending: CUT,
+        length: before + last.length,
+        noise: passed.noise + last.noise,
+        ending: last.ending,
     }
+}
+
+// How many bytes stand before the first that is not real time.
+fn count_real_time(rest: &[u8]) -> usize
+    ensures { result ≡ prefix_len (λ b. nat_lt 0xF7 b) rest.now }
+{
+    rest.iter().take_while(|b| END < **b).count()
 }
 
 // Where the first byte at a place or later stands that is not real time; no place of the bytes where there is none.
 pub fn past_real_time(bytes: &[u8], place: usize) -> usize
     ensures { result ≡ past_real_time bytes.now place }
 {
-    let mut i: usize = place;
-    while i < bytes.len() {
-        if bytes[i] <= END {
-            return i;
-        }
-        i += 1;
+    if bytes.len() <= place {
+        return place;
     }
-    i
+    place + count_real_time(&bytes[place..])
 }

@@ -2,16 +2,18 @@
 use Rattle.std.specs.Prelude.{ℕ, suc, ◌+◌, cond, List, [], ◌∷◌, length, drop, ◌==◌}
 use Rattle.streams.specs.Bytes.{is_real_time, byte_kind, body, real_time_in}
 use Rattle.frames.specs.declared.Span.{Span}
+use Rattle.frames.specs.declared.Ending.{Ending}
+use Rattle.frames.specs.declared.Ending.TheVariants.{Whole, Interrupted, Cut}
 
 -- How many bytes stand before the first F0H.
 unfoldable pub ahead : List ℕ → ℕ
 ahead [] = 0
 ahead (b ∷ s) = cond (b == 0xF0) 0 (suc (ahead s))
 
--- How a message ends, by what stands behind its body: complete (0), interrupted (3) or cut (2).
-abbrev pub ending_of : List ℕ → ℕ
-ending_of [] = 2
-ending_of (x ∷ r) = cond (x == 0xF7) 0 3
+-- How a message ends, by what stands behind its body.
+abbrev pub ending_of : List ℕ → Ending
+ending_of [] = Cut
+ending_of (x ∷ r) = cond (x == 0xF7) Whole Interrupted
 
 -- How many bytes a message has behind its F0H before the first byte in 80H..F7H, how many of them are real time, and how it ends.
 unfoldable pub span_of : List ℕ → Span
