@@ -3,9 +3,10 @@
 
 ghost use Rattle.std.specs.Prelude.{◌≡◌};
 ghost use Rattle.answers.specs.Effect.{tested};
+ghost use Rattle.answers.specs.Refusals.{told_test};
 ghost use Rattle.pairs.specs.Pairs.{same_bytes, pair_rows};
 
-use answers::{DONE, OTHER_NAME, Outcome};
+use answers::Refusal;
 use fields::NAME_SIZE;
 
 // The bytes of a and b are the same, and as many.
@@ -15,20 +16,14 @@ pub fn same(a: &[u8], b: &[u8]) -> bool
     a == b
 }
 
-// The test of both patches: 7, 11 and 12 of a, then of b; then 16 where their names differ. Done with detail 0.
-pub fn test_pair(a: &[u8], b: &[u8]) -> Outcome
-    ensures { result ≡ tested (pair_rows a.now b.now) }
+// The test of both patches: 7, 11 and 12 of a, then of b; then 16 where their names differ.
+pub fn test_pair(a: &[u8], b: &[u8]) -> Result<(), Refusal>
+    ensures { told_test result ≡ tested (pair_rows a.now b.now) }
 {
-    let from = patch::test(a);
-    if from.answer != DONE {
-        return from;
-    }
-    let to = patch::test(b);
-    if to.answer != DONE {
-        return to;
-    }
+    patch::test(a)?;
+    patch::test(b)?;
     if !same(&a[..NAME_SIZE], &b[..NAME_SIZE]) {
-        return answers::refused(OTHER_NAME, 0);
+        return Err(Refusal::OtherName);
     }
-    answers::done(0)
+    Ok(())
 }
