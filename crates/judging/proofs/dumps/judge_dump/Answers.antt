@@ -1,0 +1,1 @@
+use Rattle.judging.proofs.dumps.judge_dump.Goals as goal
