@@ -9,7 +9,8 @@ use native.Mathlib.Numerals.{add-one, unary_clauses}
 use native.Mathlib.Omega.{arith}
 use lib.ListN.{length, take, drop, set, length-append, length-drop, length-take, take-append-drop}
 use lib.Seq.{length-take-le, take_all, take-nil, take_at, drop_at, drop-drop, set_split}
-use Rattle.text.specs.Text.{fitting, IsPrefixLen, Puts}
+use Rattle.text.specs.Text.{fitting, IsPrefixLen, Puts, Gains}
+use Rattle.text.specs.declared.Text.{Text}
 
 -- The first n of two lists joined: the first of w, and of v as many as are left.
 take_both : (n : ℕ) (w v : List ℕ) → take n (w ++ v) ≡ take n w ++ take (n - length (take n w)) v
@@ -103,3 +104,10 @@ puts_counts {w} {old} {at} {new} {e} h p =
     let few = length_take_most (length old - at) w in
     let within : e ≤ length new = omega (arith, p.ends) in
     (within, sym (length-take-le e new within))
+
+-- A text that gains nothing, and one that gains more.
+pub gains_none : (a : Text) → Gains [] a a
+gains_none a = record { same_room = refl; puts = puts_none a.room.now a.end }
+
+pub gains_then : {w v : List ℕ} {a b c : Text} → Gains w a b → Gains v b c → Gains (w ++ v) a c
+gains_then g h = record { same_room = h.same_room ∙ g.same_room; puts = puts_then g.puts h.puts }
