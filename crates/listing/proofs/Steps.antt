@@ -1,27 +1,27 @@
 -- What is left of the listing before and after each kind of step.
 use mathlib.Core.Path.{◌≡◌, refl, sym, ap, ◌∙◌}
-use mathlib.Core.List.{List, [], ◌∷◌, ◌++◌, append_assoc, append-nil}
-use Prim.Native.Nat.{ℕ, ◌+◌, ◌*◌, ◌-◌, ◌/◌, ◌<◌, ◌≤◌}
+use mathlib.Core.List.{List, [], ◌++◌, append_assoc, append-nil}
+use Prim.Native.Nat.{ℕ, ◌+◌, ◌-◌, ◌<◌, ◌≤◌}
 use native.Mathlib.Nat.{zero-add}
 use native.Mathlib.Omega.{arith}
-use lib.ListN.{length, take, drop, length-append, length-take}
+use lib.ListN.{length, drop, length-append, length-drop}
+use lib.Seq.{drop-drop}
 use borrow.Author.Tests.{le-leb, lt-leb}
-use Rattle.text.specs.Text.{IsPrefixLen, Puts}
-use Rattle.text.proofs.Puts.{after, puts_none, puts_then, puts_whole, puts_counts}
-use Rattle.streams.specs.Stream.{Report}
+use Rattle.text.specs.Text.{Gains, Puts}
+use Rattle.text.specs.declared.Text.{Text}
+use Rattle.text.proofs.Puts.{after, gains_none, gains_then, puts_whole}
+use Rattle.streams.specs.Stream.{walk}
 use Rattle.streams.specs.code.Scan.{outside, scan}
-use Rattle.streams.proofs.Walk.{reports_scan}
+use Rattle.streams.proofs.Walk.{Walked, nothing, message, walked as scanned, reports_scan}
 use Rattle.messages.specs.Judge.{judge}
-use Rattle.reading.specs.code.Rooms.{width, made, Makes}
-use Rattle.reading.specs.declared.listing.Listed.{Listed}
-use Rattle.reading.proofs.Resume.{resume, Goes, goes}
-use Rattle.listing.specs.Listing.{most, header, lines, total, too_long, listing_of}
+use Rattle.reading.specs.code.Told.{walked}
+use Rattle.reading.specs.declared.walking.Report.{Report as Told}
+use Rattle.listing.specs.Listing.{most, header, line, total, too_long, listing_of}
 use Rattle.listing.specs.code.Pieces.{reports_at, left_behind, left_of, calls_left, least_room, GivesPiece}
-use Rattle.listing.specs.code.Steps.{Within, lines_of, Adds}
+use Rattle.listing.specs.code.Steps.{Within, Adds}
 use Rattle.listing.specs.declared.Left.{Left}
 use Rattle.listing.specs.declared.Left.TheVariants.{Whole, From, Nothing}
-use Rattle.listing.specs.declared.Piece.{Piece}
-use Rattle.listing.proofs.Lines.{lines_flat, lines_most, left_more, left_total}
+use Rattle.listing.proofs.Lines.{left_next, left_total}
 
 -- A state of the input: what is left is what is left behind its lines.
 pub left_within : (s : List ℕ) (place messages : ℕ) → Within s place messages → left_of s (From place messages) ≡ left_behind messages (reports_at s place)
@@ -47,48 +47,46 @@ unfolding left_of listing_of left_behind
 whole_starts s h =
     rw (le-leb (length s) most h, left_within s 0 0 (omega arith, omega arith), reports_scan judge s, zero-add (length (scan judge 0 outside s)))
 
-report_none : (rs : List Report) → length rs ≡ 0 → rs ≡ []
-report_none [] e = refl
-report_none (r ∷ rs) e = absurd (omega arith)
+-- What the walk finds from a state of the input, as text: where it finds no message the count is left; else its line, and then what is left behind it.
+module _ (s : List ℕ) (place messages : ℕ) (within : Within s place messages) where
+  past : length (drop place s) ≡ length s - place
+  past = length-drop place s
 
--- What a call for reports from a state of the input gives, as text: where it makes none the count is left, else their lines, which are few,
--- and then what is left behind them.
-module _ {s : List ℕ} {place : ℕ} (messages : ℕ) (within : Within s place messages) {old new : List ℕ} {r : Listed} (m : Makes s place old new r) where
-  pub call : Goes s place old r
-  call = goes s place old new r within.1 m
+  pub record Next (r : Told) : Type 0 where
+    pub further : place < r.end
+    pub inside : r.end ≤ length s
+    pub text : left_of s (From place messages) ≡ line r.start r.end r.outcome r.noise ++ left_of s (From r.end (messages + 1))
 
-  pub none_left : width ≤ length old → r.count ≡ 0 → left_of s (From place messages) ≡ total messages ++ left_of s Nothing
-  unfolding left_of
-  none_left h e =
-      let none : reports_at s place ≡ [] = report_none (reports_at s place) (call.last h e) in
-      left_within s place messages within ∙ rw none (left_total messages ∙ sym (append-nil (total messages)))
+  pub none_left : length s ≤ (walked s place).start → left_of s (From place messages) ≡ total messages ++ left_of s Nothing
+  unfolding left_of walk
+  none_left h = by_walk (scanned judge (drop place s) place)
+    where
+      by_walk : Walked judge place (drop place s) → left_of s (From place messages) ≡ total messages ++ left_of s Nothing
+      by_walk (nothing e₁ e₂) = left_within s place messages within ∙ rw e₂ (left_total messages ∙ sym (append-nil (total messages)))
+      by_walk (message r e f) = absurd (let k = rw e at h in omega (arith, past, f.starts, f.some_bytes, f.within))
 
-  pub made_lines : lines_of r.count new ≡ lines (made s place old)
-  made_lines =
-      let some = made s place old in
-      rw (m.holds.count, m.holds.numbers) (lines_flat some (drop (width * length some) old) m.holds.values)
-
-  pub made_few : length (lines (made s place old)) ≤ least_room
-  unfolding made
-  made_few =
-      let all = take (length old / width) (reports_at s place) in
-      let most : length (take 8 all) ≤ 8 = simp length-take (omega arith) in
-      omega (arith, lines_most (take 8 all))
-
-  pub lines_left : left_of s (From place messages) ≡ lines (made s place old) ++ left_of s (From r.next (messages + r.count))
-  lines_left =
-      let g = call in
-      let some = made s place old in
-      let behind : reports_at s place ≡ some ++ reports_at s r.next = rw m.next (resume s place old) in
-      left_within s place messages within
-      ∙ (ap (left_behind messages) behind
-      ∙ (left_more messages some (reports_at s r.next)
-      ∙ rw (← m.holds.count, left_within s r.next (messages + r.count) (omega arith, omega arith))))
+  pub next_left : (walked s place).start < length s → Next (walked s place)
+  unfolding walk
+  next_left h = by_walk (scanned judge (drop place s) place)
+    where
+      by_walk : Walked judge place (drop place s) → Next (walked s place)
+      by_walk (nothing e₁ e₂) = absurd (let k = rw e₁ at h in omega arith)
+      by_walk (message r e f) =
+          let ahead : place + f.taken ≤ length s = omega (arith, past, f.within) in
+          let behind : drop f.taken (drop place s) ≡ drop r.end s = drop-drop f.taken place s ∙ rw f.ends refl in
+          let state = left_within s r.end (messages + 1) (omega (arith, f.ends, f.some_bytes), omega (arith, f.ends)) in
+          rw e (record {
+            further = omega (arith, f.ends, f.some_bytes);
+            inside = omega (arith, f.ends);
+            text =
+                left_within s place messages within
+                ∙ rw (f.rest, ← f.ends, behind) (left_next messages r (reports_at s r.end) ∙ rw (← state) refl);
+          })
 
 -- Where nothing is left, nothing is added.
-pub adds_none : (s : List ℕ) (left : Left) (old : List ℕ) (at : ℕ) → left_of s left ≡ [] → Adds s left old at old (record { len = at; left = Nothing })
+pub adds_none : (s : List ℕ) (left : Left) (old : Text) → left_of s left ≡ [] → Adds s left old old Nothing
 unfolding left_of calls_left
-adds_none s left old at e = record { added = []; text = e; few = omega arith; puts = puts_none old at; fewer = omega arith }
+adds_none s left old e = record { added = []; text = e; few = omega arith; gains = gains_none old; fewer = omega arith }
 
 -- Some call may follow where something is left.
 pub some_call : (s : List ℕ) (left : Left) → (left ≡ Nothing → ⊥) → 0 < calls_left s left
@@ -97,62 +95,67 @@ some_call s Whole n = omega arith
 some_call s (From place messages) n = omega arith
 some_call s Nothing n = absurd (n refl)
 
--- The steps so far of a piece: what they put at the room's start, and that fewer calls may follow once there was one.
-pub record SoFar (s : List ℕ) (left₀ : Left) (room₀ room : List ℕ) (end : ℕ) (left : Left) : Type 0 where
-  pub put : List ℕ
-  pub text : left_of s left₀ ≡ put ++ left_of s left
-  pub puts : Puts put room₀ 0 room end
-  pub long : end ≡ length put
-  pub within : end ≤ length room₀
-  pub none_more : calls_left s left ≤ calls_left s left₀
-  pub fewer : 0 < end → calls_left s left < calls_left s left₀
-  pub short : length room₀ < least_room → (end ≡ 0) × (left ≡ left₀)
+pub no_call : (s : List ℕ) (left : Left) → left ≡ Nothing → calls_left s left ≡ 0
+unfolding calls_left
+no_call s left e = rw e refl
 
-pub no_step : (s : List ℕ) (left : Left) (room : List ℕ) → SoFar s left room room 0 left
-no_step s left room =
+-- The steps so far of a piece: what they put behind the text at the start, and that fewer calls may follow once there was one.
+pub record SoFar (s : List ℕ) (left₀ : Left) (start text : Text) (left : Left) : Type 0 where
+  pub put : List ℕ
+  pub whole : left_of s left₀ ≡ put ++ left_of s left
+  pub gains : Gains put start text
+  pub long : text.end ≡ start.end + length put
+  pub within : text.end ≤ length start.room.now
+  pub none_more : calls_left s left ≤ calls_left s left₀
+  pub fewer : start.end < text.end → calls_left s left < calls_left s left₀
+  pub short : length start.room.now < least_room → (text.end ≡ start.end) × (left ≡ left₀)
+
+pub no_step : (s : List ℕ) (left : Left) (text : Text) → text.end ≤ length text.room.now → SoFar s left text text left
+no_step s left text h =
     record {
       put = [];
-      text = refl;
-      puts = puts_none room 0;
-      long = refl;
-      within = omega arith;
+      whole = refl;
+      gains = gains_none text;
+      long = omega arith;
+      within = h;
       none_more = omega arith;
       fewer = λ h. absurd (omega arith);
       short = λ h. (refl, refl);
     }
 
-module _ {s : List ℕ} {left₀ : Left} {room₀ room : List ℕ} {end : ℕ} {left : Left} (f : SoFar s left₀ room₀ room end left) where
-  pub same_room : length room ≡ length room₀
-  same_room = (after f.put room₀ 0 room end f.puts).same_length
+module _ {s : List ℕ} {left₀ : Left} {start text : Text} {left : Left} (f : SoFar s left₀ start text left) where
+  pub same_room : length text.room.now ≡ length start.room.now
+  same_room = (after f.put start.room.now start.end text.room.now text.end f.gains.puts).same_length
 
-  pub one_more : {new : List ℕ} {p : Piece} → end + least_room ≤ length room → 0 < calls_left s left → Adds s left room end new p
-      → SoFar s left₀ room₀ new p.len p.left
-  one_more {new} {p} k n a =
-      let whole = puts_whole a.added room end (omega (arith, a.few)) in
-      let ends : p.len ≡ end + length a.added = rw whole at a.puts.ends in
+  pub one_more : {new : Text} {next : Left} → least_room ≤ length text.room.now - text.end → 0 < calls_left s left → Adds s left text new next
+      → SoFar s left₀ start new next
+  one_more {new} {next} k n a =
+      let whole = puts_whole a.added text.room.now text.end (omega (arith, a.few)) in
+      let ends : new.end ≡ text.end + length a.added = rw whole at a.gains.puts.ends in
       record {
         put = f.put ++ a.added;
-        text = f.text ∙ rw a.text (simp append_assoc);
-        puts = puts_then f.puts a.puts;
-        long = ends ∙ rw f.long (sym (length-append f.put a.added));
+        whole = f.whole ∙ rw a.text (simp append_assoc);
+        gains = gains_then f.gains a.gains;
+        long = ends ∙ rw f.long (omega (arith, length-append f.put a.added));
         within = omega (arith, a.few, same_room);
         none_more = omega (arith, a.fewer, f.none_more);
         fewer = λ z. omega (arith, a.fewer, f.none_more);
         short = λ h. absurd (omega (arith, k, same_room));
       }
 
-  pub piece_given : (least_room ≤ length room₀ → calls_left s left ≤ calls_left s left₀ - 1)
-      → GivesPiece s left₀ room₀ room (record { len = end; left = left }) × IsPrefixLen end room
-  piece_given fewer =
-      let whole = puts_whole f.put room₀ 0 (omega (arith, f.within, f.long)) in
-      let given : GivesPiece s left₀ room₀ room (record { len = end; left = left }) =
+  pub piece_given : {old new : List ℕ} {end : ℕ} → start.end ≡ 0 → start.room.now ≡ old → text.room.now ≡ new → end ≡ text.end
+      → (least_room ≤ length old → calls_left s left ≤ calls_left s left₀ - 1) → GivesPiece s left₀ old new (record { len = end; left = left })
+  piece_given {old} {new} {end} zero first last e fewer =
+      let same = ap length first in
+      let puts : Puts f.put old 0 new end = rw (zero, first, last, ← e) at f.gains.puts in
+      let whole = puts_whole f.put old 0 (omega (arith, f.within, f.long)) in
+      let long : end ≡ length f.put = omega (arith, f.long) in
       record {
         piece = f.put;
-        text = f.text;
-        len = f.long;
-        fits = omega (arith, f.within, f.long);
-        room = f.puts.text ∙ rw (whole, f.long) refl;
+        text = f.whole;
+        len = long;
+        fits = omega (arith, f.within);
+        room = puts.text ∙ rw (whole, long) refl;
         fewer = fewer;
-        short = f.short;
-      } in
-      (given, puts_counts (omega arith) f.puts)
+        short = λ h. let k = f.short (omega arith) in (omega (arith, k.0), k.1);
+      }

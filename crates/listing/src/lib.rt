@@ -3,15 +3,15 @@
 // nothing is left.
 #![tactic(auto)]
 
-ghost use Rattle.std.specs.Prelude.{◌*◌, ◌≤◌, length};
-ghost use Rattle.text.specs.Text.{IsPrefixLen, Puts};
-ghost use Rattle.reading.specs.code.Rooms.{width};
+ghost use Rattle.std.specs.Prelude.{◌++◌};
+ghost use Rattle.text.specs.Text.{followed, signed, spaced, Gains, IsPrefixLen};
 ghost use Rattle.listing.specs.Listing.{line, total, too_long};
 ghost use Rattle.listing.specs.code.Pieces.{GivesPiece};
-ghost use Rattle.listing.specs.code.Steps.{Within, line_of, lines_of, Adds};
+ghost use Rattle.listing.specs.code.Steps.{Within, Adds};
 
-use reading::listing::{NOISE, VALUE, WIDTH};
+use reading::listing::WIDTH;
 use reading::walking::Report;
+use text::Text;
 
 // Programs take at most this many bytes.
 pub const MOST: usize = 65536;
@@ -20,7 +20,7 @@ pub const MOST: usize = 65536;
 pub const LEAST_ROOM: usize = reading::listing::MOST * (WIDTH * 21 + 1);
 
 // What is left of a listing: the whole; what follows from a place on, behind the lines of so many messages; nothing.
-#[derive(Clone, Copy)]
+#[derive(Clone, Copy, PartialEq, Eq)]
 pub enum Left {
     Whole,
     From(usize, usize),
@@ -35,128 +35,73 @@ pub struct Piece {
 }
 
 // That the input is too long, as a line.
-pub fn put_too_long(room: &mut [u8], at: usize) -> usize
-    ensures { Puts too_long room.old at room.new result }
+pub fn put_too_long(text: &mut Text)
+    ensures { Gains too_long text.old text.new }
 {
-    text::put(room, at, b"input too long\n")
+    text.put(b"input too long\n");
 }
 
 // The first line: the header, or that the input is too long.
-fn put_first(s: &[u8], room: &mut [u8], at: usize) -> Piece
-    ensures { Adds s.now Left.Whole room.old at room.new result }
+fn put_first(s: &[u8], text: &mut Text) -> Left
+    ensures { Adds s.now Left.Whole text.old text.new result }
 {
     if MOST < s.len() {
-        return Piece {
-            len: put_too_long(room, at),
-            left: Left::Nothing,
-        };
+        put_too_long(text);
+        return Left::Nothing;
     }
-    Piece {
-        len: text::put(room, at, b"start end answer detail value rt\n"),
-        left: Left::From(0, 0),
-    }
+    text.put(b"start end answer detail value rt\n");
+    Left::From(0, 0)
 }
 
 // The last line: how many messages there are.
-fn put_total(room: &mut [u8], at: usize, messages: usize) -> usize
-    ensures { Puts (total messages) room.old at room.new result }
+fn put_total(text: &mut Text, messages: usize)
+    ensures { Gains (total messages) text.old text.new }
 {
-    let end = text::put(room, at, b"messages ");
-    text::put_number(room, end, messages, b'\n')
+    text.put(b"messages ");
+    text.put_number(messages, b'\n');
 }
 
-// The line of a report: start, end, answer, detail, the value in two's complement, and the noise.
-pub fn put_line(room: &mut [u8], at: usize, numbers: [usize; WIDTH]) -> usize
-    ensures { Puts (line_of numbers) room.old at room.new result }
+// The line of a report's numbers: start, end, answer and detail, the value with its sign, and the noise.
+pub fn put_line(text: &mut Text, numbers: [usize; 4], value: isize, noise: usize)
+    ensures { Gains (spaced numbers ++ (signed value 0x20 ++ followed noise 0x0A)) text.old text.new }
 {
-    let end = text::put_spaced(room, at, &numbers[..VALUE]);
-    let behind = text::put_signed(room, end, numbers[VALUE], b' ');
-    text::put_number(room, behind, numbers[NOISE], b'\n')
+    text.put_spaced(&numbers);
+    text.put_signed(value, b' ');
+    text.put_number(noise, b'\n');
 }
 
 // The line of a report as the walk tells it.
-pub fn put_report(room: &mut [u8], at: usize, r: Report) -> usize
-    ensures { Puts (line r.start r.end r.outcome r.noise) room.old at room.new result }
+pub fn put_report(text: &mut Text, r: Report)
+    ensures { Gains (line r.start r.end r.outcome r.noise) text.old text.new }
 {
-    let numbers = [
-        r.start,
-        r.end,
-        r.outcome.answer as usize,
-        r.outcome.detail,
-        answers::as_number(r.outcome.value),
-        r.noise,
-    ];
-    put_line(room, at, numbers)
+    let numbers = [r.start, r.end, r.outcome.answer as usize, r.outcome.detail];
+    put_line(text, numbers, r.outcome.value as isize, r.noise);
 }
 
-// The lines of `count` reports, whose numbers stand one behind the other.
-fn put_lines(room: &mut [u8], at: usize, numbers: &[usize], count: usize) -> usize
-    requires { width * count ≤ length numbers.now }
-    ensures { Puts (lines_of count numbers.now) room.old at room.new result }
-{
-    let mut end = at;
-    let mut i: usize = 0;
-    while i < count {
-        let k = WIDTH * i;
-        let line = [
-            numbers[k],
-            numbers[k + 1],
-            numbers[k + 2],
-            numbers[k + 3],
-            numbers[k + 4],
-            numbers[k + 5],
-        ];
-        end = put_line(room, end, line);
-        i += 1;
-    }
-    end
-}
-
-// The lines of the next reports, or the last line where there are none.
-fn put_more(s: &[u8], place: usize, messages: usize, room: &mut [u8], at: usize) -> Piece
+// The line of the next message, or the last line where there is none.
+fn put_next(s: &[u8], place: usize, messages: usize, text: &mut Text) -> Left
     requires { Within s.now place messages }
-    ensures { Adds s.now (Left.From place messages) room.old at room.new result }
+    ensures { Adds s.now (Left.From place messages) text.old text.new result }
 {
-    let mut numbers = [0usize; reading::listing::MOST * WIDTH];
-    let made = reading::listing::reports(s, place, &mut numbers);
-    let count = made.count;
-    if count == 0 {
-        return Piece {
-            len: put_total(room, at, messages),
-            left: Left::Nothing,
-        };
+    let report = reading::walking::walk(s, place);
+    if s.len() <= report.start {
+        put_total(text, messages);
+        return Left::Nothing;
     }
-    Piece {
-        len: put_lines(room, at, &numbers, count),
-        left: Left::From(made.next, messages + count),
-    }
+    put_report(text, report);
+    Left::From(report.end, messages + 1)
 }
 
-// One step: a first, a last or some lines, behind the room's text that ends at `at`.
-fn put_some(s: &[u8], left: Left, room: &mut [u8], at: usize) -> Piece
-    ensures { Adds s.now left room.old at room.new result }
+// One step: a first, a last or another line.
+fn put_some(s: &[u8], left: Left, text: &mut Text) -> Left
+    ensures { Adds s.now left text.old text.new result }
 {
     match left {
-        Left::Whole => put_first(s, room, at),
-        Left::From(place, messages) => {
-            if place < messages {
-                return Piece {
-                    len: at,
-                    left: Left::Nothing,
-                };
-            }
-            if s.len() < place {
-                return Piece {
-                    len: at,
-                    left: Left::Nothing,
-                };
-            }
-            put_more(s, place, messages, room, at)
+        Left::Whole => put_first(s, text),
+        Left::From(place, messages) if messages <= place && place <= s.len() => {
+            put_next(s, place, messages, text)
         }
-        Left::Nothing => Piece {
-            len: at,
-            left: Left::Nothing,
-        },
+        _ => Left::Nothing,
     }
 }
 
@@ -166,18 +111,13 @@ pub fn next_piece(s: &[u8], left: Left, room: &mut [u8]) -> Piece
     ensures gives_piece { GivesPiece s.now left room.old room.new result }
     ensures prefix_len { IsPrefixLen result.len room.new }
 {
-    let mut end: usize = 0;
+    let mut text = Text::new(room, 0);
     let mut rest = left;
-    while end + LEAST_ROOM <= room.len() {
-        if let Left::Nothing = rest {
-            break;
-        }
-        let added = put_some(s, rest, room, end);
-        end = added.len;
-        rest = added.left;
+    while rest != Left::Nothing && LEAST_ROOM <= text.space() {
+        rest = put_some(s, rest, &mut text);
     }
     Piece {
-        len: end,
+        len: text.end(),
         left: rest,
     }
 }

@@ -18,15 +18,12 @@ fn print<W: Write>(s: &[u8], room: &mut [u8], out: &mut W) -> io::Result<()>
     ensures { OnOk result (Appends (W.contents out.old) (W.contents out.new) (listing_of s.now)) }
 {
     let mut left = Left::Whole;
-    loop {
+    while left != Left::Nothing {
         let piece = listing::next_piece(s, left, room);
-        let len = piece.len;
-        out.write_all(&room[..len])?;
+        out.write_all(&room[..piece.len])?;
         left = piece.left;
-        if let Left::Nothing = left {
-            return Ok(());
-        }
     }
+    Ok(())
 }
 
 fn main(rt: HostRuntime) -> io::Result<()> {

@@ -1,5 +1,5 @@
 -- What is put for both outputs; a pass over the parts that puts a line for each in which two patches differ; and how long the lines can be.
-use mathlib.Core.Path.{◌≡◌, refl}
+use mathlib.Core.Path.{◌≡◌, refl, ◌∙◌}
 use mathlib.Core.Bool.{Bool, true, false, cond}
 use mathlib.Core.List.{List, [], ◌∷◌, ◌++◌}
 use Prim.Native.Nat.{ℕ, ◌+◌, ◌≤◌}
@@ -7,20 +7,23 @@ use native.Mathlib.Omega.{arith}
 use lib.ListN.{length, get_or, length-append}
 use Rattle.fields.specs.Fields.{parameter_at, value_at}
 use Rattle.patch.specs.Patch.{source_at, amount_at, destination_at}
-use Rattle.text.specs.Text.{ascii, followed, Puts}
+use Rattle.text.specs.Text.{ascii, followed, Gains}
+use Rattle.text.specs.declared.Text.{Text}
 use Rattle.text.proofs.Spaced.{followed_most, signed_most}
-use Rattle.text.proofs.Puts.{puts_then, puts_counts}
+use Rattle.text.proofs.Puts.{gains_none, gains_then}
 use Rattle.edit_lists.specs.Plan.{is_parameter, bus_at, parts_from, parts, same_at, differing}
 use Rattle.edit_lists.specs.code.Left.{IsPart, parts_left}
 use Rattle.edit_lists.proofs.Left.{Stands, left_start, Step, none_left, sum_of, most_changes}
 use Rattle.plan.specs.Said.{said, shown_at, parameter_line, bus_values, bus_line, change_line, lines_for, change_lines}
-use Rattle.plan.specs.code.Written.{Says}
+use Rattle.plan.specs.code.Written.{PutsBoth}
 
 -- What goes to the standard output and, behind it, what goes to the standard error.
-pub says : {o old mid v new : List ℕ} {e f : ℕ} → Puts o old 0 mid e → Puts v mid e new f → Says (said o v) old new (record { out = e; end = f })
-says p q =
-    let both = puts_then p q in
-    record { out = omega (arith, p.ends); puts = both; ordered = omega (arith, q.ends); within = (puts_counts (omega arith) both).0 }
+pub both : {o v : List ℕ} {a b c : Text} {between : ℕ} → between ≡ b.end → Gains o a b → Gains v b c → PutsBoth (said o v) a c between
+both e g h = record { out = e ∙ g.puts.ends; gains = gains_then g h; ordered = omega (arith, h.puts.ends) }
+
+-- What goes to the standard error alone.
+pub told : {v : List ℕ} {a c : Text} {between : ℕ} → between ≡ a.end → Gains v a c → PutsBoth (said [] v) a c between
+told {v} {a} e h = both e (gains_none a) h
 
 -- The lines for those of the parts from place k on in which two patches differ.
 unfoldable pub lines_left : ℕ → List ℕ → List ℕ → List ℕ

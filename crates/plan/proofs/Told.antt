@@ -3,21 +3,27 @@ use mathlib.Core.Path.{◌≡◌, refl, sym, ◌∙◌}
 use mathlib.Core.Bool.{Bool, true, false, cond}
 use mathlib.Core.List.{List, [], ◌++◌}
 use Prim.Native.Nat.{ℕ, ◌+◌, ◌-◌, ◌≤◌}
+use native.Mathlib.Nat.{zero-add}
 use native.Mathlib.Omega.{arith}
 use lib.Dec.{ltb}
 use lib.ListN.{length, take, drop, drop_of_length-le, length-drop}
 use lib.Seq.{take-nil, take_all, drop-drop}
 use borrow.Author.Tests.{ltb-true, ltb-false}
-use Rattle.text.specs.Text.{ascii, Puts}
-use Rattle.text.proofs.Puts.{puts_none}
+use Rattle.text.specs.Text.{ascii, fitting, Puts}
+use Rattle.text.specs.declared.Text.{Text}
+use Rattle.text.proofs.Puts.{puts_counts}
 use Rattle.plan.specs.Files.{found_in, patch_in, sentence}
-use Rattle.plan.specs.Said.{said, proposing, is_one, by_files, wants_lines, first_length, said_of}
-use Rattle.plan.specs.code.Written.{least, Says}
-use Rattle.plan.proofs.Lines.{says}
+use Rattle.plan.specs.Said.{Said, said, proposing, is_one, by_files, wants_lines, first_length, said_of}
+use Rattle.plan.specs.code.Written.{least, PutsBoth, Says}
 
--- What goes to the standard error alone.
-pub says_told : {w old new : List ℕ} {end : ℕ} → Puts w old 0 new end → Says (said [] w) old new (record { out = 0; end = end })
-says_told {w} {old} p = says (puts_none old 0) p
+-- Put behind no text, both stand at the room's start.
+pub says : {w : Said} {a c : Text} {old new : List ℕ} {out end : ℕ} → a.end ≡ 0 → a.room.now ≡ old → c.room.now ≡ new → end ≡ c.end
+    → PutsBoth w a c out → Says w old new (record { out = out; end = end })
+says {w} {a} {c} {old} {new} {out} {end} zero first last e p =
+    let puts : Puts (w.out ++ w.err) old 0 new end = rw (zero, first, last, ← e) at p.gains.puts in
+    let counts = puts_counts (omega arith) puts in
+    let at : out ≡ length (fitting w.out old 0) = rw (zero, first, zero-add (length (fitting w.out old 0))) at p.out in
+    record { out = at; puts = puts; ordered = omega (arith, p.ordered); within = counts.0 }
 
 module _ (lines : Bool) (returned lent : List ℕ) where
   pub first_fails : is_one (found_in returned) ≡ false → by_files lines returned lent ≡ said [] (ascii "returned: " ++ sentence (found_in returned))

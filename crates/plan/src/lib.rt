@@ -6,14 +6,14 @@ ghost use Rattle.std.specs.Prelude.{◌≡◌, ◌≤◌, ◌<◌, length, get_o
 ghost use Rattle.answers.specs.Effect.{tested};
 ghost use Rattle.streams.specs.Stream.{between};
 ghost use Rattle.fields.specs.Fields.{size};
-ghost use Rattle.text.specs.Text.{Puts};
+ghost use Rattle.text.specs.Text.{Gains};
 ghost use Rattle.pairs.specs.Pairs.{pair_rows};
 ghost use Rattle.edit_lists.specs.Lists.{list_bytes};
 ghost use Rattle.edit_lists.specs.Plan.{plan};
 ghost use Rattle.edit_lists.specs.code.Left.{Part};
 ghost use Rattle.plan.specs.Files.{is_patch_dump, only_real_time, found_in, patch_in, sentence};
 ghost use Rattle.plan.specs.Said.{shown_at, parameter_line, bus_values, bus_line, change_line, change_lines, proposing, is_one, by_files, three_bytes, said_of};
-ghost use Rattle.plan.specs.code.Written.{least, room_most, Says};
+ghost use Rattle.plan.specs.code.Written.{least, room_most, PutsBoth, Says};
 
 use answers::{DONE, NO_MESSAGE, Outcome};
 use fields::{AMOUNT_AT, BytePlace, DESTINATION_AT, NAME_SIZE, SOURCE_AT};
@@ -21,6 +21,7 @@ use frames::END;
 use listing::MOST;
 use messages::kinds::{EditBuffer, PATCH, SinglePatch};
 use reading::walking::Report;
+use text::Text;
 
 // A byte that says what is wanted, and the length of the first file in three, low byte first.
 const HEAD: usize = 4;
@@ -120,106 +121,105 @@ fn patch_in(s: &[u8]) -> [u8; PATCH]
 }
 
 // What else was found in a file, as a line.
-fn put_found(room: &mut [u8], at: usize, found: Found) -> usize
-    ensures { Puts (sentence found) room.old at room.new result }
+fn put_found(text: &mut Text, found: Found)
+    ensures { Gains (sentence found) text.old text.new }
 {
     match found {
-        Found::One => at,
-        Found::TooLong => listing::put_too_long(room, at),
-        Found::NoPatch => text::put(room, at, b"no patch dump\n"),
+        Found::One => {}
+        Found::TooLong => listing::put_too_long(text),
+        Found::NoPatch => text.put(b"no patch dump\n"),
         Found::NotOne(report) => {
-            let end = text::put(room, at, b"not one accepted patch dump: ");
-            listing::put_report(room, end, report)
+            text.put(b"not one accepted patch dump: ");
+            listing::put_report(text, report);
         }
-        Found::Outside => text::put(room, at, b"bytes outside the patch dump\n"),
+        Found::Outside => text.put(b"bytes outside the patch dump\n"),
     }
 }
 
 // The value of a byte place in a patch, with its sign, and the byte behind it. The callers below name a place of a patch.
-fn put_value(room: &mut [u8], at: usize, p: &[u8], place: usize, behind: u8) -> usize
+fn put_value(text: &mut Text, p: &[u8], place: usize, behind: u8)
     requires { (length p.now ≡ size) × (place < size) }
-    ensures { Puts (shown_at p.now place behind) room.old at room.new result }
+    ensures { Gains (shown_at p.now place behind) text.old text.new }
 {
-    let value = fields::value_at(BytePlace(place as u8), p[place]);
-    text::put_signed(room, at, answers::as_number(value), behind)
+    text.put_signed(
+        fields::value_at(BytePlace(place as u8), p[place]) as isize,
+        behind,
+    );
 }
 
 // The line of a parameter: byte place, parameter, its value before and after. `put_change` has seen that the place has one.
-fn put_parameter(room: &mut [u8], at: usize, a: &[u8], b: &[u8], k: usize) -> usize
+fn put_parameter(text: &mut Text, a: &[u8], b: &[u8], k: usize)
     requires { (length a.now ≡ size) × (length b.now ≡ size) × (8 ≤ k) × (k < 104) }
-    ensures { Puts (parameter_line a.now b.now k) room.old at room.new result }
+    ensures { Gains (parameter_line a.now b.now k) text.old text.new }
 {
     let Some(parameter) = fields::parameter_of(BytePlace(k as u8)) else {
-        return at;
+        return;
     };
-    let place = text::put_number(room, at, k, b' ');
-    let word = text::put(room, place, b"parameter ");
-    let number = text::put_number(room, word, parameter.0 as usize, b' ');
-    let before = put_value(room, number, a, k, b' ');
-    put_value(room, before, b, k, b'\n')
+    text.put_number(k, b' ');
+    text.put(b"parameter ");
+    text.put_number(parameter.0 as usize, b' ');
+    put_value(text, a, k, b' ');
+    put_value(text, b, k, b'\n');
 }
 
 // Source, amount and destination of a bus, and the byte behind them.
-fn put_values(room: &mut [u8], at: usize, p: &[u8], bus: usize, behind: u8) -> usize
+fn put_values(text: &mut Text, p: &[u8], bus: usize, behind: u8)
     requires { (length p.now ≡ size) × (bus < 10) }
-    ensures { Puts (bus_values p.now bus behind) room.old at room.new result }
+    ensures { Gains (bus_values p.now bus behind) text.old text.new }
 {
-    let source = put_value(room, at, p, SOURCE_AT + 3 * bus, b' ');
-    let amount = put_value(room, source, p, AMOUNT_AT + 3 * bus, b' ');
-    put_value(room, amount, p, DESTINATION_AT + 3 * bus, behind)
+    put_value(text, p, SOURCE_AT + 3 * bus, b' ');
+    put_value(text, p, AMOUNT_AT + 3 * bus, b' ');
+    put_value(text, p, DESTINATION_AT + 3 * bus, behind);
 }
 
 // The line of a bus: byte place, bus, its values before and after.
-fn put_bus(room: &mut [u8], at: usize, a: &[u8], b: &[u8], bus: usize) -> usize
+fn put_bus(text: &mut Text, a: &[u8], b: &[u8], bus: usize)
     requires { (length a.now ≡ size) × (length b.now ≡ size) × (bus < 10) }
-    ensures { Puts (bus_line a.now b.now bus) room.old at room.new result }
+    ensures { Gains (bus_line a.now b.now bus) text.old text.new }
 {
-    let place = text::put_number(room, at, SOURCE_AT + 3 * bus, b' ');
-    let word = text::put(room, place, b"bus ");
-    let number = text::put_number(room, word, bus, b' ');
-    let before = put_values(room, number, a, bus, b' ');
-    put_values(room, before, b, bus, b'\n')
+    text.put_number(SOURCE_AT + 3 * bus, b' ');
+    text.put(b"bus ");
+    text.put_number(bus, b' ');
+    put_values(text, a, bus, b' ');
+    put_values(text, b, bus, b'\n');
 }
 
 // The line of the edit at a place.
-fn put_change(room: &mut [u8], at: usize, a: &[u8], b: &[u8], k: usize) -> usize
+fn put_change(text: &mut Text, a: &[u8], b: &[u8], k: usize)
     requires { (length a.now ≡ size) × (length b.now ≡ size) × Part k }
-    ensures { Puts (change_line a.now b.now k) room.old at room.new result }
+    ensures { Gains (change_line a.now b.now k) text.old text.new }
 {
     if k < SOURCE_AT {
-        return put_parameter(room, at, a, b, k);
+        put_parameter(text, a, b, k);
+    } else {
+        put_bus(text, a, b, (k - SOURCE_AT) / 3);
     }
-    put_bus(room, at, a, b, (k - SOURCE_AT) / 3)
 }
 
 // A line for each edit.
-fn put_changes(room: &mut [u8], at: usize, a: &[u8], b: &[u8]) -> usize
+fn put_changes(text: &mut Text, a: &[u8], b: &[u8])
     requires { (length a.now ≡ size) × (length b.now ≡ size) }
-    ensures { Puts (change_lines a.now b.now) room.old at room.new result }
+    ensures { Gains (change_lines a.now b.now) text.old text.new }
 {
-    let mut end = at;
     let mut k = NAME_SIZE;
     while k < PATCH {
         let next = k + planner::width_of(k);
-        if pairs::same(&a[k..next], &b[k..next]) {
-            k = next;
-        } else {
-            end = put_change(room, end, a, b, k);
-            k = next;
+        if !pairs::same(&a[k..next], &b[k..next]) {
+            put_change(text, a, b, k);
         }
+        k = next;
     }
-    end
 }
 
 // The list as bytes. Its caller has tested both patches.
-fn put_list(room: &mut [u8], at: usize, a: &[u8], b: &[u8]) -> usize
+fn put_list(text: &mut Text, a: &[u8], b: &[u8])
     requires { (tested (pair_rows a.now b.now)).answer ≡ 0 }
-    ensures { Puts (list_bytes (plan a.now b.now)) room.old at room.new result }
+    ensures { Gains (list_bytes (plan a.now b.now)) text.old text.new }
 {
     let mut list = [0u8; LONGEST];
     let planned = planner::plan(a, b, &mut list);
     let n = planned.detail;
-    text::put(room, at, &list[..n])
+    text.put(&list[..n]);
 }
 
 // A file comes to one accepted patch dump.
@@ -235,43 +235,45 @@ fn is_one(found: Found) -> bool
     }
 }
 
-// The list that turns a into b, as lines or as bytes, or that their names differ.
-fn put_proposal(room: &mut [u8], lines: bool, a: &[u8], b: &[u8]) -> Written
+// The list that turns a into b, as lines or as bytes, or that their names differ; answers where the standard output's part ends.
+fn put_proposal(text: &mut Text, lines: bool, a: &[u8], b: &[u8]) -> usize
     requires { (length a.now ≡ size) × (length b.now ≡ size) }
-    ensures { Says (proposing lines a.now b.now) room.old room.new result }
+    ensures { PutsBoth (proposing lines a.now b.now) text.old text.new result }
 {
+    let start = text.end();
     let pair = pairs::test_pair(a, b);
     if pair.answer != DONE {
-        let end = text::put(room, 0, b"names differ: no edit reaches a name\n");
-        return Written { out: 0, end };
+        text.put(b"names differ: no edit reaches a name\n");
+        return start;
     }
     if lines {
-        let out = put_changes(room, 0, a, b);
-        let end = text::put(room, out, b"done\n");
-        return Written { out, end };
+        put_changes(text, a, b);
+    } else {
+        put_list(text, a, b);
     }
-    let out = put_list(room, 0, a, b);
-    let end = text::put(room, out, b"done\n");
-    Written { out, end }
+    let out = text.end();
+    text.put(b"done\n");
+    out
 }
 
-// What is written for two files, the returned patch's first.
-fn answer_files(lines: bool, returned: &[u8], lent: &[u8], room: &mut [u8]) -> Written
-    ensures { Says (by_files lines returned.now lent.now) room.old room.new result }
+// What is written for two files, the returned patch's first; answers where the standard output's part ends.
+fn answer_files(text: &mut Text, lines: bool, returned: &[u8], lent: &[u8]) -> usize
+    ensures { PutsBoth (by_files lines returned.now lent.now) text.old text.new result }
 {
+    let start = text.end();
     let first = find_patch(returned);
     if !is_one(first) {
-        let word = text::put(room, 0, b"returned: ");
-        let end = put_found(room, word, first);
-        return Written { out: 0, end };
+        text.put(b"returned: ");
+        put_found(text, first);
+        return start;
     }
     let second = find_patch(lent);
     if !is_one(second) {
-        let word = text::put(room, 0, b"lent: ");
-        let end = put_found(room, word, second);
-        return Written { out: 0, end };
+        text.put(b"lent: ");
+        put_found(text, second);
+        return start;
     }
-    put_proposal(room, lines, &patch_in(returned), &patch_in(lent))
+    put_proposal(text, lines, &patch_in(returned), &patch_in(lent))
 }
 
 // A number of three bytes, low byte first.
@@ -316,5 +318,10 @@ pub fn answer(input: &[u8], room: &mut [u8]) -> Written
     let size = number_of(byte_at(input, 1), byte_at(input, 2), byte_at(input, 3));
     let from = place_in(input, HEAD);
     let to = place_in(input, HEAD + size);
-    answer_files(lines, &input[from..to], &input[to..], room)
+    let mut text = Text::new(room, 0);
+    let out = answer_files(&mut text, lines, &input[from..to], &input[to..]);
+    Written {
+        out,
+        end: text.end(),
+    }
 }

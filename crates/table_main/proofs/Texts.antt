@@ -1,9 +1,9 @@
 -- The text of what a lookup answers, and the lines of the table place by place.
 use mathlib.Core.Path.{◌≡◌, refl}
-use mathlib.Core.List.{List, ◌++◌}
+use mathlib.Core.List.{List, ◌++◌, append_assoc, append-nil}
 use mathlib.Core.Option.{Option, none, some}
-use Prim.Native.Nat.{ℕ, suc, ◌+◌, ◌-◌, ◌<◌}
-use native.Mathlib.Numerals.{add-one}
+use Prim.Native.Nat.{ℕ, zero, suc, ◌+◌}
+use native.Mathlib.Nat.{add-zero}
 use native.Mathlib.Omega.{arith}
 use Rattle.std.specs.Prelude.{Option as Maybe, Some, None}
 use Rattle.text.specs.Text.{ascii, followed}
@@ -22,9 +22,11 @@ text_found o f e = rw e (by_answer o)
     by_answer none = refl
     by_answer (some n) = refl
 
--- What is left of the lines from a place on: its line, and those behind it.
-pub rows_next : (n k : ℕ) → k < n → table_rows (n - k) k ≡ table_row k ++ table_rows (n - (k + 1)) (k + 1)
+-- The lines of one place more: those before it, and its own.
+pub rows_more : (n k : ℕ) → table_rows (n + 1) k ≡ table_rows n k ++ table_row (k + n)
 unfolding table_rows
-rows_next n k h =
-    let one : n - k ≡ suc (n - (k + 1)) = omega arith in
-    rw (one, add-one k)
+rows_more zero k = rw (add-zero k) (append-nil (table_row k))
+rows_more (suc n) k =
+    let next : suc n + 1 ≡ suc (n + 1) = omega arith in
+    let place : suc k + n ≡ k + suc n = omega arith in
+    rw (next, rows_more n (suc k), place) (simp append_assoc)

@@ -2,74 +2,57 @@
 // Every number is asked of the fields crate's lookups.
 #![tactic(auto)]
 
-ghost use Rattle.text.specs.Text.{signed, IsPrefixLen, Puts};
+ghost use Rattle.text.specs.Text.{signed, Gains};
 ghost use Rattle.fields.specs.Fields.{value_at, parameter_of};
 ghost use Rattle.table_main.specs.Table.{parameter_text, table_row, table_text};
 
 use fields::BytePlace;
 use std::io;
 use std::io::Write;
+use text::Text;
 
 // Bytes of a patch.
 const PLACES: u8 = fields::PLACES as u8;
 
 // A place's parameter and a space behind it; a dash where it has none.
-fn put_parameter(room: &mut [u8], at: usize, place: u8) -> usize
-    ensures { Puts (parameter_text (parameter_of place)) room.old at room.new result }
+fn put_parameter(text: &mut Text, place: u8)
+    ensures { Gains (parameter_text (parameter_of place)) text.old text.new }
 {
-    let found = fields::parameter_of(BytePlace(place));
-    if let Some(parameter) = found {
-        return text::put_number(room, at, parameter.0 as usize, b' ');
+    match fields::parameter_of(BytePlace(place)) {
+        Some(parameter) => text.put_number(parameter.0 as usize, b' '),
+        None => text.put(b"- "),
     }
-    text::put(room, at, b"- ")
 }
 
 // The value of a byte at a place, with its sign, and the byte behind it.
-fn put_value(room: &mut [u8], at: usize, place: u8, b: u8, behind: u8) -> usize
-    ensures { Puts (signed (value_at place b) behind) room.old at room.new result }
+fn put_value(text: &mut Text, place: u8, b: u8, behind: u8)
+    ensures { Gains (signed (value_at place b) behind) text.old text.new }
 {
-    let value = fields::value_at(BytePlace(place), b);
-    text::put_signed(room, at, answers::as_number(value), behind)
+    text.put_signed(fields::value_at(BytePlace(place), b) as isize, behind);
 }
 
 // A place's line.
-fn put_field(room: &mut [u8], at: usize, place: u8) -> usize
-    ensures { Puts (table_row place) room.old at room.new result }
+fn put_field(text: &mut Text, place: u8)
+    ensures { Gains (table_row place) text.old text.new }
 {
-    let number = text::put_number(room, at, place as usize, b' ');
-    let parameter = put_parameter(room, number, place);
-    let least = put_value(
-        room,
-        parameter,
-        place,
-        fields::least_of(BytePlace(place)),
-        b' ',
-    );
-    put_value(
-        room,
-        least,
-        place,
-        fields::greatest_of(BytePlace(place)),
-        b'\n',
-    )
+    text.put_number(place as usize, b' ');
+    put_parameter(text, place);
+    put_value(text, place, fields::least_of(BytePlace(place)), b' ');
+    put_value(text, place, fields::greatest_of(BytePlace(place)), b'\n');
 }
 
-// The lines of all places; answers how many bytes they take.
-fn put_table(room: &mut [u8]) -> usize
-    ensures puts { Puts table_text room.old 0 room.new result }
-    ensures prefix_len { IsPrefixLen result room.new }
+// The lines of all places.
+fn put_table(text: &mut Text)
+    ensures { Gains table_text text.old text.new }
 {
-    let mut end: usize = 0;
-    let mut place: u8 = 0;
-    while place < PLACES {
-        end = put_field(room, end, place);
-        place += 1;
+    for place in 0..PLACES {
+        put_field(text, place);
     }
-    end
 }
 
 fn main(rt: HostRuntime) -> io::Result<()> {
     let mut room = [0u8; 4096];
-    let n = put_table(&mut room);
-    rt.stdout().write_all(&room[..n])
+    let mut text = Text::new(&mut room, 0);
+    put_table(&mut text);
+    rt.stdout().write_all(text.as_bytes())
 }

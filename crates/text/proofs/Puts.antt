@@ -9,7 +9,8 @@ use native.Mathlib.Numerals.{add-one, unary_clauses}
 use native.Mathlib.Omega.{arith}
 use lib.ListN.{length, take, drop, set, length-append, length-drop, length-take, take-append-drop}
 use lib.Seq.{length-take-le, take_all, take-nil, take_at, drop_at, drop-drop, set_split}
-use Rattle.text.specs.Text.{fitting, IsPrefixLen, Puts}
+use Rattle.text.specs.Text.{fitting, IsPrefixLen, Puts, Gains}
+use Rattle.text.specs.declared.Text.{Text}
 
 -- The first n of two lists joined: the first of w, and of v as many as are left.
 take_both : (n : ℕ) (w v : List ℕ) → take n (w ++ v) ≡ take n w ++ take (n - length (take n w)) v
@@ -79,19 +80,6 @@ puts_then {w} {old} {at} {mid} {e} {v} {new} {f} p q =
       text = q.text ∙ rw (a.front, back, both) (simp append_assoc);
     }
 
--- Part of a text is put: whoever puts what is left of it behind the room's text has put the whole.
-abbrev pub Underway : List ℕ → List ℕ → List ℕ → ℕ → List ℕ → ℕ → Type 0
-Underway whole left old at room end = (new : List ℕ) (f : ℕ) → Puts left room end new f → Puts whole old at new f
-
--- One part more of what is left.
-pub put_on : {whole left old : List ℕ} {at : ℕ} {room : List ℕ} {end : ℕ} {part rest : List ℕ} {room' : List ℕ} {end' : ℕ} → left ≡ part ++ rest
-    → Underway whole left old at room end → Puts part room end room' end' → Underway whole rest old at room' end'
-put_on e u p new f q = u new f (rw e (puts_then p q))
-
--- Nothing is left.
-pub put_whole : {whole left old : List ℕ} {at : ℕ} {room : List ℕ} {end : ℕ} → left ≡ [] → Underway whole left old at room end → Puts whole old at room end
-put_whole {whole} {left} {old} {at} {room} {end} e u = u room end (rw e (puts_none room end))
-
 -- Where all of it fits, it is there whole.
 pub puts_whole : (w old : List ℕ) (at : ℕ) → at + length w ≤ length old → fitting w old at ≡ w
 puts_whole w old at h = take_all (length old - at) w (omega arith)
@@ -103,3 +91,23 @@ puts_counts {w} {old} {at} {new} {e} h p =
     let few = length_take_most (length old - at) w in
     let within : e ≤ length new = omega (arith, p.ends) in
     (within, sym (length-take-le e new within))
+
+-- A text that gains nothing, and one that gains more.
+pub gains_none : (a : Text) → Gains [] a a
+gains_none a = record { same_room = refl; puts = puts_none a.room.now a.end }
+
+pub gains_then : {w v : List ℕ} {a b c : Text} → Gains w a b → Gains v b c → Gains (w ++ v) a c
+gains_then g h = record { same_room = h.same_room ∙ g.same_room; puts = puts_then g.puts h.puts }
+
+-- Part of what a text is to gain is put: what puts the rest behind it has put the whole.
+abbrev pub Underway : List ℕ → List ℕ → Text → Text → Type 0
+Underway whole left start text = (new : Text) → Gains left text new → Gains whole start new
+
+-- One part more of the rest.
+pub put_on : {whole left part rest : List ℕ} {start text text' : Text} → left ≡ part ++ rest → Underway whole left start text → Gains part text text'
+    → Underway whole rest start text'
+put_on e u g new h = u new (rw e (gains_then g h))
+
+-- Nothing is left.
+pub put_whole : {whole left : List ℕ} {start text : Text} → left ≡ [] → Underway whole left start text → Gains whole start text
+put_whole {whole} {left} {start} {text} e u = u text (rw e (gains_none text))

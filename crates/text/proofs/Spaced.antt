@@ -1,20 +1,22 @@
 -- Numbers one behind the other, and how long they are.
 use mathlib.Core.Path.{◌≡◌}
-use mathlib.Core.List.{List, [], ◌∷◌, ◌++◌}
+use mathlib.Core.List.{List, [], ◌∷◌, ◌++◌, append_assoc, append-nil}
 use Prim.Native.Nat.{ℕ, zero, suc, ◌+◌, ◌*◌, ◌/◌, ◌<◌, ◌≤◌}
 use native.Mathlib.Decide.{dec_le}
-use native.Mathlib.Numerals.{add-one}
 use native.Mathlib.Omega.{arith}
 use lib.IntN.{ℤ, pos, negsuc}
-use lib.ListN.{length, drop, get_or, length-append}
-use lib.Seq.{drop-cons}
+use lib.ListN.{length, take, get_or, length-append}
 use borrow.Author.Tests.{lt-ltb, le-ltb}
 use Rattle.text.specs.Text.{ascii, digits_of, followed, signed, spaced}
 
--- What is left of them from an index on: the number there, and the rest.
-pub spaced_next : (ns : List ℕ) (i : ℕ) → i < length ns → spaced (drop i ns) ≡ followed (get_or ns i 0) 0x20 ++ spaced (drop (i + 1) ns)
+-- The numbers up to an index and the one there.
+pub spaced_more : (ns : List ℕ) (i : ℕ) → i < length ns → spaced (take (i + 1) ns) ≡ spaced (take i ns) ++ followed (get_or ns i 0) 0x20
 unfolding spaced
-spaced_next ns i h = rw (drop-cons ns i 0 h, add-one i)
+spaced_more [] i h = absurd (omega arith)
+spaced_more (n ∷ ns) zero h = append-nil (followed n 0x20)
+spaced_more (n ∷ ns) (suc i) h =
+    let next : suc i + 1 ≡ suc (i + 1) = omega arith in
+    rw (next, spaced_more ns i (omega arith)) (simp append_assoc)
 
 -- At most k digits.
 digits_most : (k n : ℕ) → length (digits_of k n) ≤ k

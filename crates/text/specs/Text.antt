@@ -2,6 +2,7 @@
 use Rattle.std.specs.Prelude.{◌≡◌, cond, List, [], ◌∷◌, ◌++◌, ℕ, zero, suc, ◌+◌, ◌-◌, ◌/◌, ◌%◌, ◌≤◌, ltb, ℤ, pos, negsuc, length, take, drop}
 use Prim.Native.Char.{code}
 use Prim.Native.String.{String, [] as no_letter, ◌∷◌ as letter}
+use Rattle.text.specs.declared.Text.{Text}
 
 -- The bytes of a word.
 unfoldable pub ascii : String → List ℕ
@@ -39,6 +40,11 @@ fitting w room at = take (length room - at) w
 pub record Puts (w old : List ℕ) (at : ℕ) (new : List ℕ) (end : ℕ) : Type 0 where
   pub ends : end ≡ at + length (fitting w old at)
   pub text : new ≡ take at old ++ (fitting w old at ++ drop end old)
+
+-- A text gains the bytes w: they are put behind it, in the same room.
+pub record Gains (w : List ℕ) (old new : Text) : Type 0 where
+  pub same_room : new.room.ghost_name ≡ old.room.ghost_name
+  pub puts : Puts w old.room.now old.end new.room.now new.end
 
 -- What stands before place n of a room can be lent, and is n bytes. The second part follows from the first, and spares a caller's `&room[..n]` a
 -- proof file.

@@ -1,89 +1,105 @@
-// Text in ASCII, put into lent room from a place on: bytes, numbers in decimal with and without a sign. Each routine puts as many bytes as
-// there is room for, keeps the room's other bytes, and answers the place behind what it put. So routines called one behind the other, each from the
-// place that the last one answered, put their texts joined.
+// Text in ASCII, put into lent room: bytes, numbers in decimal with and without a sign. Each routine puts as many bytes as there is room for behind
+// what stands there already, and keeps the room's other bytes. So routines called one behind the other put their texts joined.
 #![tactic(auto)]
 
 pub mod input;
 
-ghost use Rattle.std.specs.Prelude.{◌≡◌, ◌≤◌, [], ◌∷◌, length, drop};
-ghost use Rattle.answers.specs.code.Numbers.{of_number};
-ghost use Rattle.text.specs.Text.{decimal, followed, signed, spaced, Puts};
+ghost use Rattle.std.specs.Prelude.{◌≡◌, ◌-◌, [], ◌∷◌, ◌++◌, length, take};
+ghost use Rattle.text.specs.Text.{followed, signed, spaced, Gains};
 
-// Numbers from here on stand for those below zero.
-const HALF: usize = 0x8000_0000_0000_0000;
-
-const LAST: usize = 0xFFFF_FFFF_FFFF_FFFF;
-
-// A byte.
-pub fn put_byte(room: &mut [u8], at: usize, b: u8) -> usize
-    ensures { Puts (b ∷ []) room.old at room.new result }
-{
-    if at < room.len() {
-        room[at] = b;
-        return at + 1;
-    }
-    at
+// A text in lent room, which stands before place `end`.
+#[derive(Drop)]
+pub struct Text<'a> {
+    room: &'a mut [u8],
+    end: usize,
 }
 
-// Bytes.
-pub fn put(room: &mut [u8], at: usize, bytes: &[u8]) -> usize
-    ensures { Puts bytes.now room.old at room.new result }
-{
-    let mut end = at;
-    let mut i: usize = 0;
-    while i < bytes.len() {
-        end = put_byte(room, end, bytes[i]);
-        i += 1;
+impl<'a> Text<'a> {
+    // The text that stands before place `end` of a room.
+    pub fn new(room: &'a mut [u8], end: usize) -> Text<'a>
+        ensures room { result.room.ghost_name ≡ room.entry.ghost_name }
+        ensures bytes { result.room.now ≡ room.entry.now }
+        ensures end { result.end ≡ end }
+    {
+        Text { room, end }
     }
-    end
-}
 
-// The digits of a number at the end of `out`; answers where they start.
-fn put_digits(n: usize, out: &mut [u8; 20]) -> usize
-    ensures within { result ≤ length out.new }
-    ensures digits { drop result out.new ≡ decimal n }
-{
-    let mut from: usize = 19;
-    let mut rest = n;
-    while rest >= 10 {
-        out[from] = b'0' + (rest % 10) as u8;
-        rest /= 10;
-        from -= 1;
+    // The place behind the text.
+    pub fn end(&self) -> usize
+        ensures { result ≡ self.now.end }
+    {
+        self.end
     }
-    out[from] = b'0' + rest as u8;
-    from
-}
 
-// A number in decimal, and the byte behind it.
-pub fn put_number(room: &mut [u8], at: usize, n: usize, behind: u8) -> usize
-    ensures { Puts (followed n behind) room.old at room.new result }
-{
-    let mut digits = [0u8; 20];
-    let from = put_digits(n, &mut digits);
-    let end = put(room, at, &digits[from..]);
-    put_byte(room, end, behind)
-}
-
-// A number with a sign, kept in two's complement of 64 bits, in decimal, and the byte behind it.
-pub fn put_signed(room: &mut [u8], at: usize, n: usize, behind: u8) -> usize
-    ensures { Puts (signed (of_number n) behind) room.old at room.new result }
-{
-    if n < HALF {
-        return put_number(room, at, n, behind);
+    // Its bytes. Where it was begun past the room, all of the room's.
+    pub fn as_bytes(&self) -> &[u8]
+        ensures { result.now ≡ take self.now.end self.now.room.now }
+    {
+        &self.room[..self.end.min(self.room.len())]
     }
-    let sign = put_byte(room, at, b'-');
-    put_number(room, sign, LAST - n + 1, behind)
-}
 
-// Numbers, a space behind each.
-pub fn put_spaced(room: &mut [u8], at: usize, numbers: &[usize]) -> usize
-    ensures { Puts (spaced numbers.now) room.old at room.new result }
-{
-    let mut end = at;
-    let mut i: usize = 0;
-    while i < numbers.len() {
-        end = put_number(room, end, numbers[i], b' ');
-        i += 1;
+    // How many bytes there is room for behind it.
+    pub fn space(&self) -> usize
+        ensures { result ≡ length self.now.room.now - self.now.end }
+    {
+        self.room.len().saturating_sub(self.end)
     }
-    end
+
+    // Empties it: what is put next stands at the room's start.
+    pub fn clear(&mut self)
+        ensures { (self.new.room ≡ self.old.room) × (self.new.end ≡ 0) }
+    {
+        self.end = 0;
+    }
+
+    // A byte.
+    pub fn put_byte(&mut self, b: u8)
+        ensures { Gains (b ∷ []) self.old self.new }
+    {
+        if self.end < self.room.len() {
+            self.room[self.end] = b;
+            self.end += 1;
+        }
+    }
+
+    // Bytes.
+    pub fn put(&mut self, bytes: &[u8])
+        ensures { Gains bytes.now self.old self.new }
+    {
+        for b in bytes {
+            self.put_byte(*b);
+        }
+    }
+
+    // What std writes of a number, and the byte behind it.
+    fn put_integer<I: itoa::Integer>(&mut self, n: I, behind: u8)
+        ensures { Gains (I.text n ++ (behind ∷ [])) self.old self.new }
+    {
+        let mut digits = itoa::Buffer::new();
+        self.put(digits.format(n).as_bytes());
+        self.put_byte(behind);
+    }
+
+    // A number in decimal, and the byte behind it.
+    pub fn put_number(&mut self, n: usize, behind: u8)
+        ensures { Gains (followed n behind) self.old self.new }
+    {
+        self.put_integer(n, behind);
+    }
+
+    // A number with its sign in decimal, and the byte behind it.
+    pub fn put_signed(&mut self, n: isize, behind: u8)
+        ensures { Gains (signed n behind) self.old self.new }
+    {
+        self.put_integer(n, behind);
+    }
+
+    // Numbers, a space behind each.
+    pub fn put_spaced(&mut self, numbers: &[usize])
+        ensures { Gains (spaced numbers.now) self.old self.new }
+    {
+        for n in numbers {
+            self.put_number(*n, b' ');
+        }
+    }
 }

@@ -1,32 +1,29 @@
+use mathlib.Core.Path.{ap}
 use native.Mathlib.Omega.{arith}
-use Rattle.listing.specs.code.Pieces.{calls_left}
-use Rattle.listing.proofs.Steps.{some_call, no_step, same_room, one_more, piece_given}
+use lib.ListN.{length}
+use Rattle.std.proofs.Common.{rules}
+use Rattle.listing.proofs.Steps.{some_call, no_call, no_step, one_more, same_room, piece_given}
 use Rattle.listing.proofs.next_piece.Goals as goal
+use Rattle.listing.proofs.next_piece.Goals.{then-loop-text-test+else-space-ge-LEAST_ROOM, else-loop-text-test}
 
-pub loop-end-init : goal.loop-end-init
-loop-end-init c = no_step c.args.s.now c.args.left c.args.room.now
+pub loop-text-init : goal.loop-text-init
+loop-text-init c = no_step c.args.s.now c.args.left c.new-text.result (omega arith)
 
-pub overflow_add-end : goal.overflow_add-end
-overflow_add-end c = let w = c.loop-end.invariant.within in omega arith
+pub loop-text-smaller : goal.loop-text-smaller
+loop-text-smaller c =
+    let some = some_call c.args.s.now c.loop-text.rest (search rules) in
+    omega (arith, c.put_some-rest.ensures.fewer)
 
-pub loop-end-smaller : goal.loop-end-smaller
-loop-end-smaller c =
-    let some = some_call c.args.s.now c.loop-end.rest c.in_default.not-Nothing in
-    omega (arith, c.put_some-added.ensures.fewer)
+pub loop-text-preserved : goal.loop-text-preserved
+loop-text-preserved c =
+    one_more c.loop-text.invariant (omega arith) (some_call c.args.s.now c.loop-text.rest (search rules)) c.put_some-rest.ensures
 
-pub loop-end-preserved : goal.loop-end-preserved
-loop-end-preserved c =
-    one_more c.loop-end.invariant (omega arith) (some_call c.args.s.now c.loop-end.rest c.in_default.not-Nothing) c.put_some-added.ensures
-
-pub returns-after-loop-end : goal.returns-after-loop-end
-returns-after-loop-end c =
-    let f = c.loop-end.invariant in
-    let same = same_room f in
-    let p = piece_given f (λ h. omega (arith, f.fewer (omega arith))) in
-    record { gives_piece = p.0; prefix_len = p.1 }
-
-pub returns-in-Nothing : goal.returns-in-Nothing
-unfolding calls_left
-returns-in-Nothing c =
-    let p = piece_given c.loop-end.invariant (λ h. rw (c.in-Nothing.is, calls_left) (omega arith)) in
-    record { gives_piece = p.0; prefix_len = p.1 }
+pub returns-clause-gives_piece : goal.returns-clause-gives_piece
+returns-clause-gives_piece c =
+    let f = c.loop-text.invariant in
+    let same = ap length c.new-text.ensures.bytes in
+    piece_given f c.new-text.ensures.end c.new-text.ensures.bytes (search rules) c.end.ensures
+    (λ h. elim c.loop-text-test.branch [
+      | then-loop-text-test+else-space-ge-LEAST_ROOM w ↦ omega (arith, f.fewer (omega (arith, same_room f)))
+      | else-loop-text-test w ↦ omega (arith, no_call c.args.s.now c.loop-text.rest (search rules))
+    ])

@@ -1,6 +1,8 @@
--- `put_line` puts the first four numbers, the value with its sign, and the noise.
-use Rattle.text.proofs.Puts.{puts_then}
+use mir.Facts.{to_z-of_z}
+use Rattle.text.proofs.Puts.{gains_then}
 use Rattle.listing.proofs.put_line.Goals as goal
 
 pub returns : goal.returns
-returns c = puts_then c.put_spaced-end.ensures (puts_then c.put_signed-behind.ensures c.put_number.ensures)
+returns c =
+    let value = rw (to_z-of_z c.ranges.value) at c.put_signed.ensures in
+    gains_then c.put_spaced.ensures (gains_then value c.put_number.ensures)

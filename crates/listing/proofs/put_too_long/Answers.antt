@@ -1,4 +1,3 @@
--- `put_too_long` puts its line.
 use Rattle.text.specs.Text.{ascii}
 use Rattle.listing.specs.Listing.{too_long}
 use Rattle.listing.proofs.put_too_long.Goals as goal

@@ -4,6 +4,7 @@ use Prim.Native.Nat.{ℕ}
 use native.Mathlib.Omega.{arith}
 use lib.ListN.{length, take, drop}
 use lib.Seq.{take_at}
+use Rattle.std.proofs.Common.{rules}
 use Rattle.std.specs.Prelude.{Option}
 use Rattle.std.specs.Io.KnownBytes.{Appends}
 use Rattle.std.proofs.KnownBytes.{Appends-nil, Appends-trans}
@@ -47,11 +48,8 @@ loop-left-preserved g c =
 
 pub loop-left-smaller : goal.loop-left-smaller
 loop-left-smaller g c =
-    let p = c.next_piece-piece in
-    let some = some_call c.args.s.now p.result.left c.in_default.not-Nothing in
-    omega (arith, p.ensures.gives_piece.fewer (omega arith))
+    let some = some_call c.args.s.now c.loop-left.left (search rules) in
+    omega (arith, c.next_piece-piece.ensures.gives_piece.fewer (omega arith))
 
-pub returns-in-Nothing : goal.returns-in-Nothing
-returns-in-Nothing g c =
-    let v = more _ _ _ c.loop-left.invariant.written c.next_piece-piece.ensures.gives_piece c.in_ok-write_all.ensures.bytes in
-    all_written c.args.s.now _ _ c.next_piece-piece.result.left c.in-Nothing.is v
+pub returns : goal.returns
+returns g c = all_written c.args.s.now _ _ c.loop-left.left (search rules) c.loop-left.invariant.written

@@ -2,10 +2,11 @@
 use mathlib.Core.Path.{◌≡◌, sym, ap, ◌∙◌}
 use mathlib.Core.Bool.{Bool, true, false}
 use Rattle.text.specs.Text.{ascii}
-use Rattle.text.proofs.Puts.{puts_then}
+use Rattle.text.proofs.Puts.{gains_then}
 use Rattle.plan.specs.declared.Found.{Found}
 use Rattle.plan.specs.Said.{is_one}
-use Rattle.plan.proofs.Told.{says_told, first_fails, second_fails, both_found}
+use Rattle.plan.proofs.Lines.{told}
+use Rattle.plan.proofs.Told.{first_fails, second_fails, both_found}
 use Rattle.plan.proofs.answer_files.Goals as goal
 
 -- What a file came to: one patch, or something else.
@@ -17,17 +18,17 @@ unfolding ascii
 returns-then-not-is_one c =
     let k = c.args in
     let f = c.find_patch-first in
-    let text = puts_then c.put-word.ensures c.put_found-end.ensures in
-    rw (first_fails k.lines k.returned.now k.lent.now (came_to false f.ensures c.is_one.ensures c.if-not-is_one.true)) (says_told (rw f.ensures at text))
+    let text = gains_then c.put.ensures c.put_found.ensures in
+    rw (first_fails k.lines k.returned.now k.lent.now (came_to false f.ensures c.is_one.ensures c.if-not-is_one.true)) (told c.end-start.ensures (rw f.ensures at text))
 
 pub returns-then-not-is_one-2 : goal.returns-then-not-is_one-2
 unfolding ascii
 returns-then-not-is_one-2 c =
     let k = c.args in
     let g = c.find_patch-second in
-    let text = puts_then c.put-word-then-not-is_one-2.ensures c.put_found-end-then-not-is_one-2.ensures in
+    let text = gains_then c.put-then-not-is_one-2.ensures c.put_found-then-not-is_one-2.ensures in
     rw (second_fails k.lines k.returned.now k.lent.now (came_to true c.find_patch-first.ensures c.is_one.ensures c.if-not-is_one.false)
-    (came_to false g.ensures c.is_one-2.ensures c.if-not-is_one-2.true)) (says_told (rw g.ensures at text))
+    (came_to false g.ensures c.is_one-2.ensures c.if-not-is_one-2.true)) (told c.end-start.ensures (rw g.ensures at text))
 
 pub returns : goal.returns
 returns c =

@@ -17,36 +17,36 @@ same_is : (a b : List ℕ) (k w : ℕ) (t : Bool) → w ≡ width_of k → t ≡
 same_is a b k w t e q = let here : k + w - k ≡ width_of k = omega arith in sym (rw here at q)
 
 pub loop-k-init : goal.loop-k-init
-loop-k-init c = (stands_start, omega arith, λ new f p. rw (lines_start c.args.a.now c.args.b.now) at p)
+loop-k-init c = (stands_start, λ new g. rw (lines_start c.args.a.now c.args.b.now) at g)
 
 pub overflow_add-next : goal.overflow_add-next
 overflow_add-next c =
     let s = step c.args.a.now c.args.b.now c.loop-k.k c.width_of.result c.loop-k.invariant.0 c.loop-k-test.true c.width_of.ensures in
     omega arith
 
-pub loop-k-preserved-then-same : goal.loop-k-preserved-then-same
-loop-k-preserved-then-same c =
-    let l = c.loop-k in
-    let w = c.width_of in
-    let s = step c.args.a.now c.args.b.now l.k w.result l.invariant.0 c.loop-k-test.true w.ensures in
-    let e = same_is c.args.a.now c.args.b.now l.k w.result c.same.result w.ensures c.same.ensures ∙ c.if-same.true in
-    (s.next, l.invariant.1, rw (lines_same s e) at l.invariant.2)
-
-pub put_change-end-requires : goal.put_change-end-requires
-put_change-end-requires c =
-    let l = c.loop-k in
-    let s = step c.args.a.now c.args.b.now l.k c.width_of.result l.invariant.0 c.loop-k-test.true c.width_of.ensures in
-    (c.requires.0, c.requires.1, s.part)
-
 pub loop-k-preserved : goal.loop-k-preserved
 loop-k-preserved c =
     let l = c.loop-k in
     let w = c.width_of in
     let s = step c.args.a.now c.args.b.now l.k w.result l.invariant.0 c.loop-k-test.true w.ensures in
-    let e = same_is c.args.a.now c.args.b.now l.k w.result c.same.result w.ensures c.same.ensures ∙ c.if-same.false in
-    (s.next, omega arith, put_on (lines_other s e) l.invariant.2 c.put_change-end.ensures)
+    let e = same_is c.args.a.now c.args.b.now l.k w.result c.same.result w.ensures c.same.ensures ∙ c.if-not-same.false in
+    (s.next, rw (lines_same s e) at l.invariant.1)
+
+pub put_change-requires : goal.put_change-requires
+put_change-requires c =
+    let l = c.loop-k in
+    let s = step c.args.a.now c.args.b.now l.k c.width_of.result l.invariant.0 c.loop-k-test.true c.width_of.ensures in
+    (c.requires.0, c.requires.1, s.part)
+
+pub loop-k-preserved-then-not-same : goal.loop-k-preserved-then-not-same
+loop-k-preserved-then-not-same c =
+    let l = c.loop-k in
+    let w = c.width_of in
+    let s = step c.args.a.now c.args.b.now l.k w.result l.invariant.0 c.loop-k-test.true w.ensures in
+    let e = same_is c.args.a.now c.args.b.now l.k w.result c.same.result w.ensures c.same.ensures ∙ c.if-not-same.true in
+    (s.next, put_on (lines_other s e) l.invariant.1 c.put_change.ensures)
 
 pub returns : goal.returns
 returns c =
     let l = c.loop-k in
-    put_whole (lines_none _ _ l.k l.invariant.0 c.loop-k-test.false) l.invariant.2
+    put_whole (lines_none _ _ l.k l.invariant.0 c.loop-k-test.false) l.invariant.1

@@ -1,7 +1,5 @@
 -- The loop's invariant: whoever puts the lines for what is left from the part at hand on has put all of them.
-use mathlib.Core.Path.{◌≡◌}
 use Prim.Native.Nat.{◌-◌}
-use lib.ListN.{length}
 use Rattle.text.proofs.Puts.{Underway}
 use Rattle.edit_lists.proofs.Left.{Stands}
 use Rattle.plan.specs.Said.{change_lines}
@@ -10,7 +8,7 @@ use Rattle.plan.proofs.put_changes.Given as goal
 
 abbrev pub invariant-loop-k : goal.invariant-loop-k
 invariant-loop-k l =
-    Stands l.k × (length l.room ≡ length l.initial.room) × Underway (change_lines l.a l.b) (lines_left l.k l.a l.b) l.initial.room l.at l.room l.end
+    Stands l.k × Underway (change_lines l.a l.b) (lines_left l.k l.a l.b) l.initial.text l.text
 
 abbrev pub decreases-loop-k : goal.decreases-loop-k
 decreases-loop-k l = 134 - l.k

@@ -1,12 +1,12 @@
--- `put_found` puts the line of what was found: each return is a case of `sentence`.
+-- Each return is a case of `sentence`.
 use Rattle.text.specs.Text.{ascii}
-use Rattle.text.proofs.Puts.{puts_none, puts_then}
+use Rattle.text.proofs.Puts.{gains_none, gains_then}
 use Rattle.plan.specs.Files.{sentence}
 use Rattle.plan.proofs.put_found.Goals as goal
 
 pub returns-in-One : goal.returns-in-One
 unfolding sentence
-returns-in-One c = rw c.in-One.is (puts_none _ _)
+returns-in-One c = rw c.in-One.is (gains_none _)
 
 pub returns-in-TooLong : goal.returns-in-TooLong
 unfolding sentence
@@ -18,7 +18,7 @@ returns-in-NoPatch c = rw c.in-NoPatch.is c.put.ensures
 
 pub returns-in-NotOne : goal.returns-in-NotOne
 unfolding sentence ascii
-returns-in-NotOne c = rw c.in-NotOne.is (puts_then c.put-end.ensures c.put_report.ensures)
+returns-in-NotOne c = rw c.in-NotOne.is (gains_then c.put-in-NotOne.ensures c.put_report.ensures)
 
 pub returns-in-Outside : goal.returns-in-Outside
 unfolding sentence ascii

@@ -1,6 +1,6 @@
--- `put_parameter` puts the place, the word, the parameter, which every place from 8 to 103 has, and its value in the one patch and in the other.
+-- The place, the word, the parameter, which every place from 8 to 103 has, and its value in the one patch and in the other.
 use Rattle.text.specs.Text.{ascii}
-use Rattle.text.proofs.Puts.{puts_then}
+use Rattle.text.proofs.Puts.{gains_then}
 use Rattle.edit_lists.proofs.Left.{found_number, found_some}
 use Rattle.plan.proofs.put_parameter.Goals as goal
 
@@ -14,6 +14,6 @@ unfolding ascii
 returns c =
     let f = c.parameter_of in
     let same = found_number c.args.k f.result f.ensures c.requires.2 c.requires.3 c.in-Some.parameter c.in-Some.is in
-    puts_then c.put_number-place.ensures
-    (puts_then c.put-word.ensures
-    (puts_then (rw same at c.put_number-number.ensures) (puts_then c.put_value-before.ensures c.put_value.ensures)))
+    gains_then c.put_number.ensures
+    (gains_then c.put.ensures
+    (gains_then (rw same at c.put_number-2.ensures) (gains_then c.put_value.ensures c.put_value-2.ensures)))

@@ -1,6 +1,7 @@
 -- How the routine tells what the program writes: both texts in a lent room, one behind the other.
-use Rattle.std.specs.Prelude.{◌≡◌, cond, List, ◌++◌, ℕ, ◌≤◌, ltb, length}
-use Rattle.text.specs.Text.{fitting, Puts}
+use Rattle.std.specs.Prelude.{◌≡◌, cond, List, ◌++◌, ℕ, ◌+◌, ◌≤◌, ltb, length}
+use Rattle.text.specs.Text.{fitting, Puts, Gains}
+use Rattle.text.specs.declared.Text.{Text}
 use Rattle.plan.specs.Said.{Said}
 use Rattle.plan.specs.declared.Written.{Written}
 
@@ -11,6 +12,12 @@ least a n = cond (ltb n a) n a
 -- All that can be said fits into a room of so many bytes.
 abbrev pub room_most : ℕ
 room_most = 11264
+
+-- A text gains both, one behind the other, and `between` is the place behind the first.
+pub record PutsBoth (w : Said) (old new : Text) (between : ℕ) : Type 0 where
+  pub out : between ≡ old.end + length (fitting w.out old.room.now old.end)
+  pub gains : Gains (w.out ++ w.err) old new
+  pub ordered : between ≤ new.end
 
 -- As much as fits stands in the room; up to `out` what goes to the standard output.
 pub record Says (w : Said) (old new : List ℕ) (r : Written) : Type 0 where

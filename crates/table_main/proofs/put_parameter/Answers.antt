@@ -1,11 +1,9 @@
--- `put_parameter` puts the number that the lookup found, or the dash.
+-- The dash; the search finds the number.
 use Rattle.text.specs.Text.{ascii}
 use Rattle.fields.specs.Fields.{parameter_of}
 use Rattle.table_main.proofs.Texts.{text_found}
 use Rattle.table_main.proofs.put_parameter.Goals as goal
 
-pub returns : goal.returns
+pub returns-in-Nothing : goal.returns-in-Nothing
 unfolding ascii
-returns c =
-    let p = c.parameter_of-found in
-    rw (text_found (parameter_of c.args.place) p.result p.ensures, c.in_default.is) c.put.ensures
+returns-in-Nothing c = rw (text_found (parameter_of c.args.place) c.parameter_of.result c.parameter_of.ensures, c.in-Nothing.is) c.put.ensures

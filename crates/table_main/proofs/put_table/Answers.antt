@@ -1,24 +1,23 @@
-use mathlib.Core.Path.{◌≡◌}
-use Prim.Native.Nat.{◌-◌}
+use native.Mathlib.Nat.{zero-add}
 use native.Mathlib.Omega.{arith}
-use Rattle.text.proofs.Puts.{put_on, put_whole, puts_counts}
+use mathlib.Core.Path.{◌≡◌}
+use Rattle.text.proofs.Puts.{gains_none, gains_then}
 use Rattle.table_main.specs.Table.{places, table_rows, table_text}
-use Rattle.table_main.proofs.Texts.{rows_next}
+use Rattle.table_main.proofs.Texts.{rows_more}
 use Rattle.table_main.proofs.put_table.Goals as goal
 
 pub loop-place-init : goal.loop-place-init
-unfolding table_text
-loop-place-init c = (omega arith, omega arith, λ new f p. p)
+unfolding table_rows
+loop-place-init c = gains_none c.args.text.now
 
 pub loop-place-preserved : goal.loop-place-preserved
 loop-place-preserved c =
     let l = c.loop-place in
-    (omega arith, omega arith, put_on (rows_next places l.place (omega arith)) l.invariant.2 c.put_field-end.ensures)
+    rw (rows_more l.place 0, zero-add l.place) (gains_then l.invariant c.put_field.ensures)
 
 pub returns : goal.returns
-unfolding table_rows
+unfolding table_text
 returns c =
     let l = c.loop-place in
-    let none : places - l.place ≡ 0 = omega arith in
-    let all = put_whole (rw (none, table_rows)) l.invariant.2 in
-    record { puts = all; prefix_len = puts_counts (omega arith) all }
+    let all : places ≡ l.place = omega arith in
+    rw all l.invariant
