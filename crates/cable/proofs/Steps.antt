@@ -4,9 +4,9 @@ use mathlib.Core.Bool.{true, false}
 use mathlib.Core.List.{List, [], ◌++◌}
 use mathlib.Core.Option.{Option, none, some}
 use Prim.Native.Nat.{ℕ, min, ◌+◌, ◌-◌, ◌≤◌, ◌<◌}
-use native.Mathlib.Nat.{zero-add, min-le_left}
+use native.Mathlib.Nat.{zero-add}
 use native.Mathlib.Omega.{arith}
-use lib.ListN.{length, take, drop, length-take, length-drop}
+use lib.ListN.{length, take, drop, length-drop}
 use lib.Seq.{take_at}
 use Rattle.answers.specs.Table.{Verdict, refused, outcome}
 use Rattle.answers.specs.Effect.{Gives}
@@ -48,9 +48,6 @@ ended_step old p n f k v known b j g e q =
 -- What is kept of a content is the first of it.
 kept_content : (c : Cable) (w : List ℕ) → let k = keeping c w in take k.count k.bytes ≡ take room w
 kept_content c w = take_at (take room w) _ (length (take room w)) refl
-
-pub kept_within : (w : List ℕ) → length (take room w) ≤ room
-kept_within w = omega (arith, length-take room w, min-le_left room (length w))
 
 -- Inside a message, and the bytes t are fed, whose span was found.
 module _ (c : Cable) (i : c.inside ≡ true) (o : c.over ≡ false) (t : List ℕ) (s : Span) (e : s ≡ span_of t) where

@@ -137,7 +137,8 @@ impl Cable {
     // More of the message that is open, its real time dropped, as much as there is room for. The callers have counted the real time.
     fn append(&mut self, more: &[u8], noise: usize)
         requires { noise ≡ real_time_in more.now }
-        ensures { self.new ≡ grown self.old more.now }
+        ensures state { self.new ≡ grown self.old more.now }
+        ensures fits { self.new.count ≤ ROOM }
     {
         self.count = append(&mut self.bytes, self.count, more, noise);
     }

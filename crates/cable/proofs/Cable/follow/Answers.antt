@@ -7,7 +7,7 @@ use lib.ListN.{length}
 use Rattle.messages.specs.Judge.{judge}
 use Rattle.frames.proofs.Feeding.{span_within, span_taken, span_heard, span_quiet}
 use Rattle.cable.specs.Cable.{cleared}
-use Rattle.cable.proofs.Steps.{kept_within, follow_broken, follow_open, follow_closed}
+use Rattle.cable.proofs.Steps.{follow_broken, follow_open, follow_closed}
 use Rattle.cable.proofs.Cable.follow.Goals.{After-find_end-span}
 use Rattle.cable.proofs.Cable.follow.Goals as goal
 
@@ -41,10 +41,7 @@ append-requires c = span_heard judge c.args.input.now c.find_end-span.result c.f
 pub returns-then-span-eq-CUT : goal.returns-then-span-eq-CUT
 returns-then-span-eq-CUT c =
     let f = follow_open c.args.self.now c.requires.open c.requires.before_end c.args.input.now c.find_end-span.result c.find_end-span.ensures in
-    rw (c.append.ensures, c.min.ensures, c.no_report.ensures) (f c.if-span-eq-CUT.true)
-
-pub shared_ref_as_front-record_kept : goal.shared_ref_as_front-record_kept
-shared_ref_as_front-record_kept c = rw c.append.ensures (kept_within _)
+    rw (c.append.ensures.state, c.min.ensures, c.no_report.ensures) (f c.if-span-eq-CUT.true)
 
 pub overflow_add-end-2 : goal.overflow_add-end-2
 overflow_add-end-2 c = omega (arith, within (goal.at.overflow_add-end-2 c).After-find_end-span)
@@ -56,5 +53,5 @@ pub returns : goal.returns
 unfolding cleared
 returns c =
     let f = follow_closed c.args.self.now c.requires.open c.requires.before_end c.args.input.now c.find_end-span.result c.find_end-span.ensures in
-    rw (c.ended-2.ensures.state, c.ended-2.ensures.fed, c.append.ensures, c.min.ensures)
-    (f _ _ (rw c.append.ensures at c.record_kept-judged.ensures) c.if-span-eq-INTERRUPTED.false c.if-span-eq-CUT.false)
+    rw (c.ended-2.ensures.state, c.ended-2.ensures.fed, c.append.ensures.state, c.min.ensures)
+    (f _ _ (rw c.append.ensures.state at c.record_kept-judged.ensures) c.if-span-eq-INTERRUPTED.false c.if-span-eq-CUT.false)

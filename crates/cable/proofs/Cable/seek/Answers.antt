@@ -51,7 +51,7 @@ append-requires c = span_heard judge _ _ (span (goal.at.append-requires c).After
 pub returns-then-span-eq-CUT : goal.returns-then-span-eq-CUT
 returns-then-span-eq-CUT c =
     let f = seek_open c.args.self.now c.requires.open c.args.input.now c.find_start-i.result c.find_start-i.ensures c.if-input-i.false _ c.record_from-heard.result (recorded (goal.at.returns-then-span-eq-CUT c).After-record_from-heard) in
-    rw (c.append.ensures, c.no_report-then-span-eq-CUT.ensures) (f _ (rw c.at_rest.ensures) c.if-span-eq-CUT.true)
+    rw (c.append.ensures.state, c.no_report-then-span-eq-CUT.ensures) (f _ (rw c.at_rest.ensures) c.if-span-eq-CUT.true)
 
 pub overflow_add-end-then-span-eq-DONE : goal.overflow_add-end-then-span-eq-DONE
 overflow_add-end-then-span-eq-DONE c = omega (arith, within (goal.at.overflow_add-end-then-span-eq-DONE c).After-record_from-heard)
