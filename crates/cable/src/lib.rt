@@ -272,19 +272,17 @@ pub fn fresh() -> Cable
 
 // Takes bytes up to the end of the next message, or all if none ends, and tells how many, with the report or that none has ended. Refused by
 // 1 behind the end, by 21 where the input's length and the bytes taken so far add up to more than LIMIT: then nothing changes.
-pub fn feed(state: Cable, input: &[u8]) -> Step
+pub fn feed(mut state: Cable, input: &[u8]) -> Step
     ensures { result ≡ feeding state input.now }
 {
-    let mut state = state;
     let fed = state.take(input);
     Step { state, fed }
 }
 
 // Declares the end: 2 for the message that is open, else 1. Again, it changes nothing and gives 1.
-pub fn end(state: Cable) -> Step
+pub fn end(mut state: Cable) -> Step
     ensures { result ≡ ending state }
 {
-    let mut state = state;
     let fed = state.end();
     Step { state, fed }
 }
