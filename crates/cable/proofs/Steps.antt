@@ -105,21 +105,19 @@ module _ (c : Cable) (i : c.inside ≡ false) (s : List ℕ) (a : ℕ) (ea : a �
     abbrev pub rest : List ℕ
     rest = take (length s - (a + 1)) (drop (a + 1) s)
 
-    pub rest_length : length rest ≡ length s - (a + 1)
-    rest_length = ap length (to_end (a + 1) s) ∙ length-drop (a + 1) s
-
     module _ (g : Gives (recorded_from rest cleared) x b) where
       abbrev n : ℕ
       n = a + 1 + x.span.length
 
-      pub its_span : x.span ≡ span_of rest
+      -- Where it ends.
+      abbrev e : ℕ
+      e = c.taken + a + (1 + x.span.length)
+
+      its_span : x.span ≡ span_of rest
       its_span = ap (λ (y : Heard). y.span) g.result
 
       its_record : Gives (recorded_as (verdict_from rest) cleared) x.judged b
       its_record = record { result = ap (λ (y : Heard). y.judged) g.result; lent = g.lent }
-
-      pub seek_within : n ≤ length s
-      seek_within = omega (arith, span_within judge rest x.span its_span, rest_length)
 
       by_rest : (m : ℕ) (st : State) (r : Option Report) → taken judge (c.taken + a + 1) (inside (c.taken + a) [] 0) rest ≡ taking m st r
           → goes c s ≡ step_by cleared c.taken (taking (a + 1 + m) st r)
@@ -129,25 +127,26 @@ module _ (c : Cable) (i : c.inside ≡ false) (s : List ℕ) (a : ℕ) (ea : a �
           goes_outside c s i ∙ rw (found, same)
 
       pub seek_broken : (x.span.ending ≡ 2 → ⊥) → (x.span.ending ≡ 0 → ⊥)
-          → Leaves (goes c s) (closed_at b x.judged (c.taken + a + 1 + x.span.length)) (reported x.judged (c.taken + a) (c.taken + a + 1 + x.span.length) x.span.noise n)
+          → Leaves (goes c s) (closed_at b x.judged e) (reported x.judged (c.taken + a) e x.span.noise n)
       seek_broken u v =
+          let end : c.taken + a + 1 + x.span.length ≡ e = omega arith in
           let three : x.span.ending ≡ 3 = span_broken judge rest x.span its_span u v in
           let verdict : verdict_from rest ≡ refused (outcome 3 0) = verdict_ended rest x.span its_span v ∙ rw three in
           leaves_as _ _ _ _ (by_rest _ _ _ (fed_broken judge rest x.span its_span (c.taken + a + 1) (c.taken + a) [] 0 u v))
-          (rw zero-add
+          (rw (end, zero-add)
           (ended_step cleared c.taken n (c.taken + a) x.span.noise (refused (outcome 3 0)) (known_refused 3 (λ y. omega arith)) b x.judged
-          (rw verdict at its_record) (c.taken + a + 1 + x.span.length) (omega arith)))
+          (rw verdict at its_record) e (omega arith)))
 
       pub seek_closed : x.span.ending ≡ 0
-          → Leaves (goes c s) (closed_at b x.judged (c.taken + a + 1 + x.span.length + 1)) (reported x.judged (c.taken + a) (c.taken + a + 1 + x.span.length + 1) x.span.noise (n + 1))
+          → Leaves (goes c s) (closed_at b x.judged (e + 1)) (reported x.judged (c.taken + a) (e + 1) x.span.noise (n + 1))
       seek_closed z =
-          let end : c.taken + a + 1 + (x.span.length + 1) ≡ c.taken + a + 1 + x.span.length + 1 = omega arith in
+          let end : c.taken + a + 1 + (x.span.length + 1) ≡ e + 1 = omega arith in
           let size : a + 1 + (x.span.length + 1) ≡ n + 1 = omega arith in
           let content = without_real_time (take x.span.length rest) in
           leaves_as _ _ _ _ (by_rest _ _ _ (fed_closed judge rest x.span its_span (c.taken + a + 1) (c.taken + a) [] 0 z))
           (rw (end, size, zero-add)
           (ended_step cleared c.taken (n + 1) (c.taken + a) x.span.noise (judge (framed content)) (known_judge content) b x.judged
-          (rw (verdict_judged rest x.span its_span z) at its_record) (c.taken + a + 1 + x.span.length + 1) (omega arith)))
+          (rw (verdict_judged rest x.span its_span z) at its_record) (e + 1) (omega arith)))
 
       -- Cut, the room is as it was.
       seek_cleared : x.span.ending ≡ 2 → b ≡ cleared
@@ -155,9 +154,11 @@ module _ (c : Cable) (i : c.inside ≡ false) (s : List ℕ) (a : ℕ) (ea : a �
           let verdict = verdict_ended rest x.span its_span (λ y. omega arith) in
           (rw verdict at its_record).lent
 
-      pub seek_open : (d : Cable) → d ≡ record { bytes = b; inside = true; over = false; count = 0; start = c.taken + a; noise = x.span.noise; taken = c.taken + a + 1 + x.span.length }
-          → x.span.ending ≡ 2 → Leaves (goes c s) (grown d (take x.span.length rest)) (no_report 0 0 n)
-      seek_open d ed z =
-          let end : c.taken + a + 1 + x.span.length ≡ c.taken + n = omega arith in
+      abbrev begun : Cable
+      begun = record { bytes = b; inside = true; over = false; count = 0; start = c.taken + a; noise = x.span.noise; taken = e }
+
+      pub seek_open : x.span.ending ≡ 2 → Leaves (goes c s) (grown begun (take x.span.length rest)) (no_report 0 0 n)
+      seek_open z =
+          let end : c.taken + n ≡ e = omega arith in
           leaves_as _ _ _ _ (by_rest _ _ _ (fed_cut judge rest x.span its_span (c.taken + a + 1) (c.taken + a) [] 0 z))
-          (rw zero-add (record { state = rw (ed, seek_cleared z, end); fed = refl }))
+          (rw zero-add (record { state = rw (seek_cleared z, end); fed = refl }))

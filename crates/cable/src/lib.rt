@@ -9,7 +9,7 @@ ghost use Rattle.answers.specs.Table.{outcome};
 ghost use Rattle.streams.specs.Bytes.{real_time_in};
 ghost use Rattle.judging.specs.code.Judged.{refused_by};
 ghost use Rattle.cable.specs.Cable.{limit, held_by, resting, fresh_record, no_report, goes, feeding, last_told, ending, Leaves};
-ghost use Rattle.cable.specs.code.Steps.{size_told, reported, closed_at, grown};
+ghost use Rattle.cable.specs.code.Steps.{size_told, reported, closing, grown};
 
 use crate::room::append;
 use answers::{CUT, DONE, INTERRUPTED, NO_MESSAGE, Outcome, TOO_MANY};
@@ -143,22 +143,21 @@ impl Cable {
         self.count = append(&mut self.bytes, self.count, more, noise);
     }
 
-    // The message has ended at `end`, its packed bytes stand in the room: its report, told by a call that took `taken` bytes.
-    fn ended(&mut self, judged: Judged, end: usize, taken: usize) -> Fed
-        ensures state { self.new ≡ closed_at self.old.bytes judged end }
-        ensures fed { result ≡ reported judged self.old.start end self.old.noise taken }
+    // The message has ended here, its packed bytes stand in the room: its report, told by a call that took `taken` bytes.
+    fn ended(&mut self, judged: Judged, taken: usize) -> Fed
+        ensures { Leaves (closing self.old judged taken) self.new result }
     {
-        let fed = Fed::report(judged, self.start, end, self.noise, taken);
+        let fed = Fed::report(judged, self.start, self.taken, self.noise, taken);
         self.inside = false;
         self.over = false;
         self.count = size_told(judged.outcome);
         self.start = 0;
         self.noise = 0;
-        self.taken = end;
         fed
     }
 
     // Inside a message: on to its end, or all of the input. The caller below has seen that one is open, and that the places fit.
+    #[tactic(auto, using(crate::proofs::Spans::spans))]
     fn follow(&mut self, input: &[u8]) -> Fed
         requires open { self.old.inside ≡ true }
         requires before_end { self.old.over ≡ false }
@@ -167,53 +166,53 @@ impl Cable {
     {
         let span = frames::find_end(input);
         let n = span.length;
-        let end = self.taken + n;
         self.noise = self.noise.min(self.taken) + span.noise;
+        self.taken += n;
         if span.ending == INTERRUPTED {
             self.bytes = [0; ROOM];
-            return self.ended(refused(INTERRUPTED), end, n);
+            return self.ended(refused(INTERRUPTED), n);
         }
         self.append(&input[..n], span.noise);
         if span.ending == CUT {
-            self.taken = end;
             return Fed::no_report(0, DONE, n);
         }
         let mut packed = [0; ROOM];
         let judged = judging::record_kept(&self.bytes[..self.count], &mut packed);
         self.bytes = packed;
-        self.ended(judged, end + 1, n + 1)
+        self.taken += 1;
+        self.ended(judged, n + 1)
     }
 
     // Outside a message: on to the end of the next one, or all of the input. A message that stands there whole is read where it stands.
     // The caller below has seen that none is open, and that the places fit.
+    #[tactic(auto, using(crate::proofs::Spans::spans))]
     fn seek(&mut self, input: &[u8]) -> Fed
         requires open { self.old.inside ≡ false }
         requires fits { self.old.taken + length input.now ≤ limit }
         ensures { Leaves (goes self.old input.now) self.new result }
     {
         let i = frames::find_start(input);
-        let start = self.taken + i;
-        *self = Cable::at_rest(start, false);
+        *self = Cable::at_rest(self.taken + i, false);
         if input.len() <= i {
             return Fed::no_report(0, DONE, i);
         }
         let rest = &input[i + 1..];
         let heard = judging::record_from(rest, &mut self.bytes);
         let span = heard.span;
-        let end = start + 1 + span.length;
         let n = i + 1 + span.length;
-        self.start = start;
+        self.start = self.taken;
         self.noise = span.noise;
+        self.taken += 1 + span.length;
         if span.ending == CUT {
             self.inside = true;
-            self.taken = end;
             self.append(&rest[..span.length], span.noise);
             return Fed::no_report(0, DONE, n);
         }
         if span.ending == DONE {
-            return self.ended(heard.judged, end + 1, n + 1);
+            self.taken += 1;
+            return self.ended(heard.judged, n + 1);
         }
-        self.ended(heard.judged, end, n)
+        self.ended(heard.judged, n)
     }
 
     // What a feed makes of a record: 1 behind the end, 21 where the bytes would be too many, and then nothing changes.

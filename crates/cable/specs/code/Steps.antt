@@ -9,6 +9,7 @@ use Rattle.judging.specs.declared.Judged.{Judged}
 use Rattle.reading.specs.code.Told.{report_as}
 use Rattle.cable.specs.declared.Cable.{Cable}
 use Rattle.cable.specs.declared.Fed.{Fed}
+use Rattle.cable.specs.declared.Step.{Step}
 use Rattle.cable.specs.Cable.{room}
 
 -- The bytes w stand at the start of a lent buffer, as many as fit, and n is how many these are.
@@ -28,10 +29,14 @@ keeping c w = let b = take room w in record c { bytes = at_start b c.bytes; coun
 abbrev pub grown : Cable → List ℕ → Cable
 grown c t = keeping c (take c.count c.bytes ++ without_real_time t)
 
+-- What a call tells that took n bytes and with them the end e of a message from place f on, with k real time in it, that comes to j.
+abbrev pub reported : Judged → ℕ → ℕ → ℕ → ℕ → Fed
+reported j f e k n = record { reading = record { report = report_as f e j.outcome k; bytes = j.bytes }; taken = n; ended = true }
+
 -- A record whose message has come to j at place e, its packed bytes in the room b.
 abbrev pub closed_at : List ℕ → Judged → ℕ → Cable
 closed_at b j e = record { bytes = b; inside = false; over = false; count = size_told j.outcome; start = 0; noise = 0; taken = e }
 
--- What a call tells that took n bytes and with them the end e of a message from place f on, with k real time in it, that comes to j.
-abbrev pub reported : Judged → ℕ → ℕ → ℕ → ℕ → Fed
-reported j f e k n = record { reading = record { report = report_as f e j.outcome k; bytes = j.bytes }; taken = n; ended = true }
+-- What a call of n bytes leaves and tells whose record c is at the end of its message, which comes to j, its packed bytes in the room.
+abbrev pub closing : Cable → Judged → ℕ → Step
+closing c j n = record { state = closed_at c.bytes j c.taken; fed = reported j c.start c.taken c.noise n }
