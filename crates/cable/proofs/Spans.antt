@@ -1,12 +1,12 @@
 -- What stands before a message's end is among the bytes fed, and its real time is counted.
-use mathlib.Core.Path.{◌≡◌, refl, sym, ◌∙◌}
+use mathlib.Core.Path.{◌≡◌, refl, sym}
 use mathlib.Core.List.{List}
-use Prim.Native.Nat.{ℕ, min, ◌+◌, ◌-◌, ◌≤◌}
+use Prim.Native.Nat.{ℕ, ◌+◌, ◌-◌, ◌≤◌}
 use lib.ListN.{length, take, drop, length-drop}
 use Rattle.answers.proofs.Lists.{to_end}
 use Rattle.streams.specs.Bytes.{real_time_in}
 use Rattle.messages.specs.Judge.{judge}
-use Rattle.frames.specs.code.Extent.{ahead, span_of}
+use Rattle.frames.specs.code.Extent.{span_of}
 use Rattle.frames.proofs.Extent.{ahead_within}
 use Rattle.frames.proofs.Feeding.{span_within, span_taken, span_heard, span_quiet}
 

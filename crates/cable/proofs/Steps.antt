@@ -6,7 +6,7 @@ use mathlib.Core.Option.{Option, none, some}
 use Prim.Native.Nat.{ℕ, min, ◌+◌, ◌-◌, ◌≤◌, ◌<◌}
 use native.Mathlib.Nat.{zero-add}
 use native.Mathlib.Omega.{arith}
-use lib.ListN.{length, take, drop, length-drop}
+use lib.ListN.{length, take, drop}
 use lib.Seq.{take_at}
 use Rattle.answers.specs.Table.{Verdict, refused, outcome}
 use Rattle.answers.specs.Effect.{Gives}
@@ -18,7 +18,7 @@ use Rattle.streams.specs.code.Scan.{State, outside, inside}
 use Rattle.frames.specs.declared.Span.{Span}
 use Rattle.frames.specs.code.Extent.{ahead, span_of}
 use Rattle.frames.proofs.Extent.{ahead_within}
-use Rattle.frames.proofs.Feeding.{span_within, span_closed, span_broken, fed_cut, fed_closed, fed_broken, fed_none, fed_found}
+use Rattle.frames.proofs.Feeding.{span_closed, span_broken, fed_cut, fed_closed, fed_broken, fed_none, fed_found}
 use Rattle.messages.specs.Judge.{judge}
 use Rattle.messages.proofs.Long.{judge_kept}
 use Rattle.judging.specs.declared.Judged.{Judged}
