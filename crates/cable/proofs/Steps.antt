@@ -111,7 +111,7 @@ module _ (c : Cable) (i : c.inside ≡ false) (s : List ℕ) (a : ℕ) (ea : a �
 
       -- Where it ends.
       abbrev e : ℕ
-      e = c.taken + a + (1 + x.span.length)
+      e = c.taken + a + 1 + x.span.length
 
       its_span : x.span ≡ span_of rest
       its_span = ap (λ (y : Heard). y.span) g.result
@@ -129,11 +129,10 @@ module _ (c : Cable) (i : c.inside ≡ false) (s : List ℕ) (a : ℕ) (ea : a �
       pub seek_broken : (x.span.ending ≡ 2 → ⊥) → (x.span.ending ≡ 0 → ⊥)
           → Leaves (goes c s) (closed_at b x.judged e) (reported x.judged (c.taken + a) e x.span.noise n)
       seek_broken u v =
-          let end : c.taken + a + 1 + x.span.length ≡ e = omega arith in
           let three : x.span.ending ≡ 3 = span_broken judge rest x.span its_span u v in
           let verdict : verdict_from rest ≡ refused (outcome 3 0) = verdict_ended rest x.span its_span v ∙ rw three in
           leaves_as _ _ _ _ (by_rest _ _ _ (fed_broken judge rest x.span its_span (c.taken + a + 1) (c.taken + a) [] 0 u v))
-          (rw (end, zero-add)
+          (rw zero-add
           (ended_step cleared c.taken n (c.taken + a) x.span.noise (refused (outcome 3 0)) (known_refused 3 (λ y. omega arith)) b x.judged
           (rw verdict at its_record) e (omega arith)))
 

@@ -143,16 +143,17 @@ impl Cable {
         self.count = append(&mut self.bytes, self.count, more, noise);
     }
 
-    // The message has ended here, its packed bytes stand in the room: its report, told by a call that took `taken` bytes.
-    fn ended(&mut self, judged: Judged, taken: usize) -> Fed
-        ensures { Leaves (closing self.old judged taken) self.new result }
+    // The message has ended at `end`, its packed bytes stand in the room: its report, told by a call that took `taken` bytes.
+    fn ended(&mut self, judged: Judged, end: usize, taken: usize) -> Fed
+        ensures { Leaves (closing self.old judged end taken) self.new result }
     {
-        let fed = Fed::report(judged, self.start, self.taken, self.noise, taken);
+        let fed = Fed::report(judged, self.start, end, self.noise, taken);
         self.inside = false;
         self.over = false;
         self.count = size_told(judged.outcome);
         self.start = 0;
         self.noise = 0;
+        self.taken = end;
         fed
     }
 
@@ -166,21 +167,21 @@ impl Cable {
     {
         let span = frames::find_end(input);
         let n = span.length;
+        let end = self.taken + n;
         self.noise = self.noise.min(self.taken) + span.noise;
-        self.taken += n;
         if span.ending == INTERRUPTED {
             self.bytes = [0; ROOM];
-            return self.ended(refused(INTERRUPTED), n);
+            return self.ended(refused(INTERRUPTED), end, n);
         }
         self.append(&input[..n], span.noise);
         if span.ending == CUT {
+            self.taken = end;
             return Fed::no_report(0, DONE, n);
         }
         let mut packed = [0; ROOM];
         let judged = judging::record_kept(&self.bytes[..self.count], &mut packed);
         self.bytes = packed;
-        self.taken += 1;
-        self.ended(judged, n + 1)
+        self.ended(judged, end + 1, n + 1)
     }
 
     // Outside a message: on to the end of the next one, or all of the input. A message that stands there whole is read where it stands.
@@ -192,7 +193,8 @@ impl Cable {
         ensures { Leaves (goes self.old input.now) self.new result }
     {
         let i = frames::find_start(input);
-        *self = Cable::at_rest(self.taken + i, false);
+        let start = self.taken + i;
+        *self = Cable::at_rest(start, false);
         if input.len() <= i {
             return Fed::no_report(0, DONE, i);
         }
@@ -200,19 +202,19 @@ impl Cable {
         let heard = judging::record_from(rest, &mut self.bytes);
         let span = heard.span;
         let n = i + 1 + span.length;
-        self.start = self.taken;
+        let end = start + 1 + span.length;
+        self.start = start;
         self.noise = span.noise;
-        self.taken += 1 + span.length;
         if span.ending == CUT {
             self.inside = true;
+            self.taken = end;
             self.append(&rest[..span.length], span.noise);
             return Fed::no_report(0, DONE, n);
         }
         if span.ending == DONE {
-            self.taken += 1;
-            return self.ended(heard.judged, n + 1);
+            return self.ended(heard.judged, end + 1, n + 1);
         }
-        self.ended(heard.judged, n)
+        self.ended(heard.judged, end, n)
     }
 
     // What a feed makes of a record: 1 behind the end, 21 where the bytes would be too many, and then nothing changes.

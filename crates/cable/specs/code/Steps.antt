@@ -37,6 +37,6 @@ reported j f e k n = record { reading = record { report = report_as f e j.outcom
 abbrev pub closed_at : List ℕ → Judged → ℕ → Cable
 closed_at b j e = record { bytes = b; inside = false; over = false; count = size_told j.outcome; start = 0; noise = 0; taken = e }
 
--- What a call of n bytes leaves and tells whose record c is at the end of its message, which comes to j, its packed bytes in the room.
-abbrev pub closing : Cable → Judged → ℕ → Step
-closing c j n = record { state = closed_at c.bytes j c.taken; fed = reported j c.start c.taken c.noise n }
+-- What a call that took n bytes leaves and tells of a record whose message has come to j at place e, its packed bytes in the room.
+abbrev pub closing : Cable → Judged → ℕ → ℕ → Step
+closing c j e n = record { state = closed_at c.bytes j e; fed = reported j c.start e c.noise n }

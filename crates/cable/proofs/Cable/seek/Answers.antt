@@ -15,12 +15,12 @@ returns-then-span-eq-CUT c =
 
 pub returns-then-span-eq-DONE : goal.returns-then-span-eq-DONE
 returns-then-span-eq-DONE c =
-    rw (c.ended.ensures.state, c.ended.ensures.fed, c.at_rest.ensures)
+    rw (c.ended.ensures.state, c.ended.ensures.fed)
     (seek_closed c.args.self.now c.requires.open _ _ c.find_start-i.ensures c.if-input-i.false _ _
     (rw c.at_rest.ensures at c.record_from-heard.ensures) c.if-span-eq-DONE.true)
 
 pub returns : goal.returns
 returns c =
-    rw (c.ended-2.ensures.state, c.ended-2.ensures.fed, c.at_rest.ensures)
+    rw (c.ended-2.ensures.state, c.ended-2.ensures.fed)
     (seek_broken c.args.self.now c.requires.open _ _ c.find_start-i.ensures c.if-input-i.false _ _
     (rw c.at_rest.ensures at c.record_from-heard.ensures) c.if-span-eq-CUT.false c.if-span-eq-DONE.false)
