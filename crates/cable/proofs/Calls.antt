@@ -2,7 +2,7 @@
 use mathlib.Core.Path.{◌≡◌, ap, ◌∙◌}
 use mathlib.Core.Bool.{Bool, true, false, cond}
 use mathlib.Core.List.{List, []}
-use Prim.Native.Nat.{ℕ, ◌+◌}
+use Prim.Native.Nat.{ℕ, min, ◌+◌}
 use lib.Dec.{ltb}
 use lib.ListN.{length, take}
 use Rattle.streams.specs.Feed.{taken}
@@ -10,12 +10,12 @@ use Rattle.streams.specs.code.Scan.{State, outside, inside}
 use Rattle.messages.specs.Judge.{judge}
 use Rattle.cable.specs.declared.Cable.{Cable}
 use Rattle.cable.specs.declared.Step.{Step}
-use Rattle.cable.specs.Cable.{limit, least, held_by, cleared, resting, step_by, refusing, goes, feeding, last_told, ending}
+use Rattle.cable.specs.Cable.{limit, held_by, cleared, resting, step_by, refusing, goes, feeding, last_told, ending}
 
 module _ (c : Cable) where
   -- The message that is open.
   abbrev pub its : State
-  its = inside c.start (take c.count c.bytes) (least c.noise c.taken)
+  its = inside c.start (take c.count c.bytes) (min c.noise c.taken)
 
   pub held_inside : c.inside ≡ true → held_by c ≡ its
   held_inside i = ap (λ (v : Bool). cond v its outside) i

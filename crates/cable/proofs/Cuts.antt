@@ -4,7 +4,8 @@ use mathlib.Core.Path.{◌≡◌, refl, sym, ap, ◌∙◌}
 use mathlib.Core.Bool.{Bool, true, false, cond}
 use mathlib.Core.List.{List, [], ◌∷◌, ◌++◌, map, append_assoc}
 use mathlib.Core.Option.{Option, none, some}
-use Prim.Native.Nat.{ℕ, zero, suc, ◌+◌, ◌-◌, ◌*◌, ◌≤◌, ◌<◌}
+use Prim.Native.Nat.{ℕ, zero, suc, min, ◌+◌, ◌-◌, ◌*◌, ◌≤◌, ◌<◌}
+use native.Mathlib.Nat.{min-le_right, min-eq_left}
 use native.Mathlib.Omega.{arith}
 use lib.Dec.{leb}
 use lib.ListN.{length, take, drop, length-take, length-drop, take-append-drop}
@@ -28,9 +29,8 @@ use Rattle.messages.proofs.Long.{judge_kept}
 use Rattle.reading.specs.code.Told.{reading_of}
 use Rattle.cable.specs.declared.Cable.{Cable}
 use Rattle.cable.specs.declared.Step.{Step}
-use Rattle.cable.specs.Cable.{limit, room, least, held_by, laid_over, cleared, packed_of, resting, record_of, fresh_record, told, step_by, goes, feeding, last_told, ending}
+use Rattle.cable.specs.Cable.{limit, room, held_by, laid_over, cleared, packed_of, resting, record_of, fresh_record, told, step_by, goes, feeding, last_told, ending}
 use Rattle.cable.specs.promises.Cuts.{Entry, given, entry_of, Run, run, with_bytes, ReadSo, AsTheFile, EveryCut}
-use Rattle.cable.proofs.Kept.{least_second}
 use Rattle.cable.proofs.Recorded.{known_judge}
 use Rattle.cable.proofs.Calls.{ending_first, feeding_goes}
 
@@ -67,19 +67,16 @@ scan_short (b ∷ s) p (inside f c k) = by_its_kind (byte_kind b) (scan_short s 
     by_its_kind otherStatus i = refl
     by_its_kind realTime i = i (inside f c (suc k))
 
-least_first : (a b : ℕ) → a ≤ b → least a b ≡ a
-least_first a b h = rw (le-ltb b a h)
-
 -- A record holds the state that it is made of.
 held_again : (old : List ℕ) (n : ℕ) (st : State) (p : List ℕ) → Within n st → held_by (record_of old n st p) ≡ short st
 held_again old n outside p w = refl
-held_again old n (inside f c k) p w = rw (take_at (take room c) (drop (length (take room c)) old) (length (take room c)) refl, least_first k n w)
+held_again old n (inside f c k) p w = rw (take_at (take room c) (drop (length (take room c)) old) (length (take room c)) refl, min-eq_left w)
 
 held_within : (c : Cable) → Within c.taken (held_by c)
 held_within c = by_flag c.inside
   where
-    by_flag : (v : Bool) → Within c.taken (cond v (inside c.start (take c.count c.bytes) (least c.noise c.taken)) outside)
-    by_flag true = least_second c.noise c.taken _ refl
+    by_flag : (v : Bool) → Within c.taken (cond v (inside c.start (take c.count c.bytes) (min c.noise c.taken)) outside)
+    by_flag true = min-le_right c.noise c.taken
     by_flag false = tt
 
 -- The record of a call that was done has what the call took, and goes on.

@@ -1,16 +1,17 @@
--- Bytes kept at the start of lent room, as many as fit: one more where there is room, none where it is full, and in a part of an array.
+-- Bytes kept at the start of lent room, as many as fit: one more where there is room, none where it is full, and behind the first of it.
 use mathlib.Core.Path.{◌≡◌, refl, sym, ap, ◌∙◌}
-use mathlib.Core.Bool.{Bool, true, false, cond}
+use mathlib.Core.Bool.{Bool, true, false}
 use mathlib.Core.List.{List, [], ◌∷◌, ◌++◌, append_assoc, append-nil}
-use Prim.Native.Nat.{ℕ, ◌+◌, ◌-◌, ◌≤◌, ◌<◌}
+use Prim.Native.Nat.{ℕ, min, ◌+◌, ◌-◌, ◌≤◌, ◌<◌}
+use native.Mathlib.Nat.{min-le_right}
 use native.Mathlib.Omega.{arith}
-use lib.Dec.{leb, ltb}
+use lib.Dec.{leb}
 use lib.ListN.{length, take, drop, set, length-append, length-take, length-drop, drop_of_length-le}
 use lib.Seq.{take_all, take_at, take-append-le, take-append-add, length-take-le, drop-drop}
-use borrow.Author.Tests.{leb-true, leb-false, ltb-true, ltb-false}
+use borrow.Author.Tests.{leb-true, leb-false}
 use borrow.Rule.Slice.PartMut.{put_mid, mid_of, post_of}
+use Rattle.std.proofs.lemmas.List.{take_min}
 use Rattle.answers.proofs.Lists.{put_next}
-use Rattle.cable.specs.Cable.{least}
 use Rattle.cable.specs.code.Steps.{Kept}
 
 -- All of w fits, or as much of it as there is room for.
@@ -50,82 +51,47 @@ module _ (w o₀ o : List ℕ) (n : ℕ) (k : Kept w o₀ o n) where
       go (some_of l e) = long l
       go (all_of l e) = long (omega (arith, k.count, ap length e))
 
--- The bytes kept stand at the start of the room.
-pub kept_front : (w o₀ o : List ℕ) (n : ℕ) → Kept w o₀ o n → take n o ≡ take (length o₀) w
-kept_front w o₀ o n k = rw (k.bytes, k.count) (take_at (take (length o₀) w) _ (length (take (length o₀) w)) refl)
+  -- They stand at the start of the room.
+  pub kept_front : take n o ≡ take (length o₀) w
+  kept_front = rw (k.bytes, k.count) (take_at (take (length o₀) w) _ (length (take (length o₀) w)) refl)
 
-pub kept_within : (w o₀ o : List ℕ) (n : ℕ) → Kept w o₀ o n → n ≤ length o
-kept_within w o₀ o n k = omega (arith, k.count, ap length k.bytes, length-append (take (length o₀) w) (drop (length (take (length o₀) w)) o₀))
+  pub kept_within : n ≤ length o
+  kept_within = omega (arith, k.count, ap length k.bytes, length-append (take (length o₀) w) (drop (length (take (length o₀) w)) o₀))
 
--- Bytes that fill the room are all that stands there.
-pub kept_whole : (w o₀ o : List ℕ) (n : ℕ) → length w ≡ length o₀ → Kept w o₀ o n → o ≡ w
-kept_whole w o₀ o n l k =
-    let all : take (length o₀) w ≡ w = take_all (length o₀) w (omega arith) in
-    k.bytes ∙ rw (all, drop_of_length-le o₀ {i = length w} (omega arith)) (append-nil w)
+-- What is put behind the first k bytes of a room.
+module _ (s w : List ℕ) (count k : ℕ) (e : k ≡ min count (length s)) (ys : List ℕ) (m : ℕ) (kept : Kept w (mid_of k (length s - k) s) ys m) where
+  within : k ≤ length s
+  within = omega (arith, e, min-le_right count (length s))
 
-pub least_second : (a b n : ℕ) → n ≡ least a b → n ≤ b
-least_second a b n e = by_test (ltb b a) refl e
-  where
-    by_test : (t : Bool) → ltb b a ≡ t → n ≡ cond t b a → n ≤ b
-    by_test true q z = omega arith
-    by_test false q z = omega (arith, ltb-false b a q)
+  rest : mid_of k (length s - k) s ≡ drop k s
+  rest = take_all (length s - k) (drop k s) (simp length-drop (omega arith))
 
--- As many as the lesser of two lengths.
-pub least_within : (w o : List ℕ) (n : ℕ) → n ≡ least (length w) (length o) → (n ≤ length w) × (n ≤ length o)
-least_within w o n e = by_test (ltb (length o) (length w)) refl e
-  where
-    by_test : (t : Bool) → ltb (length o) (length w) ≡ t → n ≡ cond t (length o) (length w) → (n ≤ length w) × (n ≤ length o)
-    by_test true q z = let l = ltb-true (length o) (length w) q in (omega arith, omega arith)
-    by_test false q z = let l = ltb-false (length o) (length w) q in (omega arith, omega arith)
+  head : length (take k s) ≡ k
+  head = length-take-le k s within
 
-pub kept_least : (w o₀ o : List ℕ) (n : ℕ) → n ≡ least (length w) (length o₀) → o ≡ take n w ++ drop (length (take n w)) o₀ → Kept w o₀ o n
-kept_least w o₀ o n e b = by_test (ltb (length o₀) (length w)) refl e
-  where
-    by_test : (t : Bool) → ltb (length o₀) (length w) ≡ t → n ≡ cond t (length o₀) (length w) → Kept w o₀ o n
-    by_test true q z =
-        let l = ltb-true (length o₀) (length w) q in
-        record { count = z ∙ sym (length-take-le (length o₀) w (omega arith)); bytes = b ∙ rw z }
-    by_test false q z =
-        let l = ltb-false (length o₀) (length w) q in
-        let all = take_all (length o₀) w l in
-        let same = take_all n w (omega arith) in
-        record { count = rw all z; bytes = rw all (b ∙ rw same) }
+  left : length (drop k s) ≡ length s - k
+  left = length-drop k s
 
--- An array of n bytes whose first k are kept, and what is put into the rest of it.
-module _ (s w : List ℕ) (k n : ℕ) (l : length s ≡ n) where
-  -- Full: it stays.
-  pub array_full : n ≤ k → Kept (take k s ++ w) s s n
-  array_full h =
-      let all : take k s ≡ s = take_all k s (omega arith) in
-      let same : take (length s) (s ++ w) ≡ s = take_at s w (length s) refl in
-      record { count = rw (all, same) (sym l); bytes = rw (all, same, drop_of_length-le s {i = length s} (omega arith)) (sym (append-nil s)) }
+  front : take (length s) (take count s ++ w) ≡ take k s ++ take (length s - k) w
+  front =
+      let h = within in
+      let same : take k s ≡ take count s = rw e (take_min count s) in
+      let size : length s ≡ length (take k s) + (length s - k) = omega (arith, head) in
+      ap (λ (l : List ℕ). take (length s) (l ++ w)) (sym same)
+      ∙ ap (λ (n : ℕ). take n (take k s ++ w)) size ∙ take-append-add (take k s) w (length s - k)
 
-  module _ (h : k < n) (ys : List ℕ) (m : ℕ) (kept : Kept w (mid_of k (n - k) s) ys m) where
-    rest : mid_of k (n - k) s ≡ drop k s
-    rest = take_all (n - k) (drop k s) (simp length-drop (omega arith))
+  pub behind_within : k + m ≤ length s
+  behind_within = omega (arith, within, kept.count, length-take (length (mid_of k (length s - k) s)) w, ap length rest, left)
 
-    head : length (take k s) ≡ k
-    head = length-take-le k s (omega arith)
-
-    left : length (drop k s) ≡ n - k
-    left = simp length-drop (omega arith)
-
-    front : take (length s) (take k s ++ w) ≡ take k s ++ take (n - k) w
-    front =
-        let e : length s ≡ length (take k s) + (n - k) = omega (arith, head) in
-        ap (λ (m : ℕ). take m (take k s ++ w)) e ∙ take-append-add (take k s) w (n - k)
-
-    pub array_within : m ≤ n - k
-    array_within = omega (arith, kept.count, length-take (length (mid_of k (n - k) s)) w, ap length rest, left)
-
-    -- Else the bytes stand behind the first k.
-    pub array_grown : Kept (take k s ++ w) s (put_mid k (n - k) s ys) (k + m)
-    array_grown =
-        let c : m ≡ length (take (n - k) w) = kept.count ∙ rw (rest, left) in
-        let b : ys ≡ take (n - k) w ++ drop m (drop k s) = kept.bytes ∙ rw (rest, left, ← c) in
-        let size : k + m ≡ length (take k s ++ take (n - k) w) = simp length-append (omega (arith, head)) in
-        let behind : post_of k (n - k) s ≡ [] = drop_of_length-le (drop k s) {i = n - k} (omega (arith, left)) in
-        record {
-          count = rw front size;
-          bytes = rw (front, ← size, b, behind, append-nil) (rw (← (drop-drop m k s)) (sym (append_assoc (take k s) (take (n - k) w) _)));
-        }
+  pub kept_behind : Kept (take count s ++ w) s (put_mid k (length s - k) s ys) (k + m)
+  kept_behind =
+      let c : m ≡ length (take (length s - k) w) = kept.count ∙ rw (rest, left) in
+      let b : ys ≡ take (length s - k) w ++ drop m (drop k s) = kept.bytes ∙ rw (rest, left, ← c) in
+      let size : k + m ≡ length (take k s ++ take (length s - k) w) = simp length-append (omega (arith, head)) in
+      let behind : post_of k (length s - k) s ≡ [] = drop_of_length-le (drop k s) {i = length s - k} (omega (arith, left)) in
+      record {
+        count = rw front size;
+        bytes =
+            rw (front, ← size, b, behind, append-nil)
+            (rw (← (drop-drop m k s)) (sym (append_assoc (take k s) (take (length s - k) w) _)));
+      }

@@ -4,7 +4,7 @@ use mathlib.Core.List.{List}
 use Prim.Native.Nat.{ℕ, ◌≤◌}
 use native.Mathlib.Nat.{mod-eq_of_lt}
 use native.Mathlib.Omega.{arith}
-use lib.ListN.{length, replicate, length-replicate}
+use lib.ListN.{length, length-replicate}
 use borrow.Author.Tests.{le-leb, ne_eqb}
 use Rattle.answers.specs.Table.{Verdict, done, refused, outcome, outcome_of, answer_of}
 use Rattle.answers.specs.Effect.{Gives, at_start}
@@ -23,11 +23,6 @@ use Rattle.cable.specs.code.Steps.{size_told}
 pub room_is : length cleared ≡ room
 unfolding cleared
 room_is = length-replicate {A = ℕ} room 0
-
--- A room of a record that was cleared.
-pub cleared_is : (old b : List ℕ) → length old ≡ room → b ≡ replicate (length old) 0 → b ≡ cleared
-unfolding cleared
-cleared_is old b l e = e ∙ ap (λ (n : ℕ). replicate n 0) l
 
 -- What is known of a verdict: its packed bytes are no more than a master's, and its outcome says how many.
 pub record Known (v : Verdict) : Type 0 where

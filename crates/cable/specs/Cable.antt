@@ -1,5 +1,5 @@
 -- Document 02 (iv), 'Reading straight from the cable': a reader's record, held by the desk program, and what each call tells and leaves in it.
-use Rattle.std.specs.Prelude.{◌≡◌, Bool, true, false, cond, List, [], ℕ, ◌+◌, ltb, length, take, replicate}
+use Rattle.std.specs.Prelude.{◌≡◌, Bool, true, false, cond, List, [], ℕ, ◌+◌, min, ltb, length, take, replicate}
 use Rattle.std.proofs.Math.Option.{Option, none, some}
 use Rattle.answers.specs.Table.{refused, outcome, four}
 use Rattle.answers.specs.Effect.{at_start}
@@ -25,12 +25,9 @@ room = 351
 unfoldable pub cleared : List ℕ
 cleared = replicate room 0
 
-abbrev pub least : ℕ → ℕ → ℕ
-least a b = cond (ltb b a) b a
-
 -- The message that is open, by a record. (A call that is done leaves no more noise there than bytes taken; of a record that has more, so many count.)
 abbrev pub held_by : Cable → State
-held_by c = cond c.inside (inside c.start (take c.count c.bytes) (least c.noise c.taken)) outside
+held_by c = cond c.inside (inside c.start (take c.count c.bytes) (min c.noise c.taken)) outside
 
 -- 'After a dump's report it gives the packed bytes until the next call': the first of the record's bytes, where no message is open.
 abbrev pub packed_by : Cable → List ℕ

@@ -4,18 +4,14 @@
 
 pub mod room;
 
-ghost use Rattle.std.specs.Prelude.{◌≡◌, true, false, [], ◌+◌, ◌≤◌, ltb, length};
-ghost use Rattle.std.proofs.Math.Option.{some};
-ghost use Rattle.answers.specs.Table.{refused, outcome};
-ghost use Rattle.streams.specs.Stream.{report};
-ghost use Rattle.streams.specs.Feed.{taken};
-ghost use Rattle.streams.specs.code.Scan.{outside};
-ghost use Rattle.messages.specs.Judge.{judge};
+ghost use Rattle.std.specs.Prelude.{◌≡◌, true, false, [], ◌+◌, ◌≤◌, length};
+ghost use Rattle.answers.specs.Table.{outcome};
+ghost use Rattle.streams.specs.Bytes.{real_time_in};
 ghost use Rattle.judging.specs.code.Judged.{refused_by};
-ghost use Rattle.cable.specs.Cable.{limit, least, room as room_size, cleared, resting, fresh_record, no_report, told, step_by, goes, feeding, ending};
-ghost use Rattle.cable.specs.code.Steps.{record_in, size_told, ended_as, open_as, Turns};
+ghost use Rattle.cable.specs.Cable.{limit, held_by, resting, fresh_record, no_report, goes, feeding, last_told, ending, Leaves};
+ghost use Rattle.cable.specs.code.Steps.{size_told, reported, closing, grown};
 
-use crate::room::{append, clear, least_of, put_all};
+use crate::room::append;
 use answers::{CUT, DONE, INTERRUPTED, NO_MESSAGE, Outcome, TOO_MANY};
 use judging::Judged;
 use messages::kinds::{MasterParameters, kind_of};
@@ -23,7 +19,7 @@ use reading::recording::Reading;
 use reading::walking::Report;
 
 // So many bytes are taken at most.
-pub const LIMIT: usize = 4294967295;
+pub const LIMIT: usize = 0xFFFF_FFFF;
 
 // Room for the longest message.
 pub const ROOM: usize = MasterParameters::LENGTH;
@@ -60,62 +56,13 @@ pub struct Step {
     pub fed: Fed,
 }
 
-// A record beside its room.
-#[derive(Clone, Copy)]
-struct Held {
-    inside: bool,
-    over: bool,
-    count: usize,
-    start: usize,
-    noise: usize,
-    taken: usize,
-}
-
-// The same behind a call, and what the call tells.
-#[derive(Clone, Copy)]
-struct Turn {
-    held: Held,
-    fed: Fed,
-}
-
-// No message is open, and no packed bytes are there.
-fn at_rest(taken: usize, over: bool) -> Cable
-    ensures { result ≡ resting [] taken over }
+// What a message comes to that was interrupted or cut.
+fn refused(answer: u8) -> Judged
+    ensures { result ≡ refused_by (outcome answer 0) }
 {
-    Cable {
-        bytes: [0; ROOM],
-        inside: false,
-        over,
-        count: 0,
-        start: 0,
-        noise: 0,
-        taken,
-    }
-}
-
-// A fresh start.
-pub fn fresh() -> Cable
-    ensures { result ≡ fresh_record }
-{
-    at_rest(0, false)
-}
-
-// What a call tells where no message ended with it.
-fn no_report(place: usize, answer: u8, taken: usize) -> Fed
-    ensures { result ≡ no_report place answer taken }
-{
-    Fed {
-        reading: Reading {
-            report: Report {
-                start: place,
-                end: place,
-                outcome: answers::refused(answer, 0),
-                noise: 0,
-            },
-            bytes: [0, 0, 0, 0],
-        },
-        taken,
-        ended: false,
+    Judged {
+        outcome: answers::refused(answer, 0),
+        bytes: [0; 4],
     }
 }
 
@@ -129,234 +76,214 @@ fn size_told(outcome: Outcome) -> usize
     kind_of((outcome.detail % 256) as u8).packed_size()
 }
 
-// A message has ended, at `end`: its report, and the count of its packed bytes, which stand in the room.
-fn ended(judged: Judged, start: usize, end: usize, noise: usize, taken: usize) -> Turn
-    ensures { result ≡ ended_as judged start end noise taken }
-{
-    let outcome = judged.outcome;
-    let given = judged.bytes;
-    Turn {
-        held: Held {
-            inside: false,
-            over: false,
-            count: size_told(outcome),
-            start: 0,
-            noise: 0,
-            taken: end,
-        },
-        fed: Fed {
+impl Fed {
+    // What a call tells where no message ended with it.
+    fn no_report(place: usize, answer: u8, taken: usize) -> Fed
+        ensures { result ≡ no_report place answer taken }
+    {
+        Fed {
+            reading: Reading {
+                report: Report {
+                    start: place,
+                    end: place,
+                    outcome: answers::refused(answer, 0),
+                    noise: 0,
+                },
+                bytes: [0; 4],
+            },
+            taken,
+            ended: false,
+        }
+    }
+
+    // What a call tells with which a message ended.
+    fn report(judged: Judged, start: usize, end: usize, noise: usize, taken: usize) -> Fed
+        ensures { result ≡ reported judged start end noise taken }
+    {
+        let bytes = judged.bytes;
+        Fed {
             reading: Reading {
                 report: Report {
                     start,
                     end,
-                    outcome,
+                    outcome: judged.outcome,
                     noise,
                 },
-                bytes: given,
+                bytes,
             },
             taken,
             ended: true,
-        },
+        }
     }
 }
 
-// A message is open still: so many of its bytes stand in the room.
-fn goes_on(start: usize, count: usize, noise: usize, end: usize, taken: usize) -> Turn
-    ensures { result ≡ open_as start count noise end taken }
-{
-    Turn {
-        held: Held {
-            inside: true,
-            over: false,
-            count,
-            start,
-            noise,
-            taken: end,
-        },
-        fed: no_report(0, DONE, taken),
+impl Cable {
+    // No message is open, and no packed bytes are there.
+    #[tactic(auto, unfolding(crate::specs::Cable::cleared))]
+    fn at_rest(taken: usize, over: bool) -> Cable
+        ensures { result ≡ resting [] taken over }
+    {
+        Cable {
+            bytes: [0; ROOM],
+            inside: false,
+            over,
+            count: 0,
+            start: 0,
+            noise: 0,
+            taken,
+        }
+    }
+
+    // More of the message that is open, its real time dropped, as much as there is room for. The callers have counted the real time.
+    fn append(&mut self, more: &[u8], noise: usize)
+        requires { noise ≡ real_time_in more.now }
+        ensures state { self.new ≡ grown self.old more.now }
+        ensures fits { self.new.count ≤ ROOM }
+    {
+        self.count = append(&mut self.bytes, self.count, more, noise);
+    }
+
+    // The message has ended at `end`, its packed bytes stand in the room: its report, told by a call that took `taken` bytes.
+    fn ended(&mut self, judged: Judged, end: usize, taken: usize) -> Fed
+        ensures { Leaves (closing self.old judged end taken) self.new result }
+    {
+        let fed = Fed::report(judged, self.start, end, self.noise, taken);
+        self.inside = false;
+        self.over = false;
+        self.count = size_told(judged.outcome);
+        self.start = 0;
+        self.noise = 0;
+        self.taken = end;
+        fed
+    }
+
+    // Inside a message: on to its end, or all of the input. The caller below has seen that one is open, and that the places fit.
+    #[tactic(auto, using(crate::proofs::Spans::spans))]
+    fn follow(&mut self, input: &[u8]) -> Fed
+        requires open { self.old.inside ≡ true }
+        requires before_end { self.old.over ≡ false }
+        requires fits { self.old.taken + length input.now ≤ limit }
+        ensures { Leaves (goes self.old input.now) self.new result }
+    {
+        let span = frames::find_end(input);
+        let n = span.length;
+        let end = self.taken + n;
+        self.noise = self.noise.min(self.taken) + span.noise;
+        if span.ending == INTERRUPTED {
+            self.bytes = [0; ROOM];
+            return self.ended(refused(INTERRUPTED), end, n);
+        }
+        self.append(&input[..n], span.noise);
+        if span.ending == CUT {
+            self.taken = end;
+            return Fed::no_report(0, DONE, n);
+        }
+        let mut packed = [0; ROOM];
+        let judged = judging::record_kept(&self.bytes[..self.count], &mut packed);
+        self.bytes = packed;
+        self.ended(judged, end + 1, n + 1)
+    }
+
+    // Outside a message: on to the end of the next one, or all of the input. A message that stands there whole is read where it stands.
+    // The caller below has seen that none is open, and that the places fit.
+    #[tactic(auto, using(crate::proofs::Spans::spans))]
+    fn seek(&mut self, input: &[u8]) -> Fed
+        requires open { self.old.inside ≡ false }
+        requires fits { self.old.taken + length input.now ≤ limit }
+        ensures { Leaves (goes self.old input.now) self.new result }
+    {
+        let i = frames::find_start(input);
+        let start = self.taken + i;
+        *self = Cable::at_rest(start, false);
+        if input.len() <= i {
+            return Fed::no_report(0, DONE, i);
+        }
+        let rest = &input[i + 1..];
+        let heard = judging::record_from(rest, &mut self.bytes);
+        let span = heard.span;
+        let n = i + 1 + span.length;
+        let end = start + 1 + span.length;
+        self.start = start;
+        self.noise = span.noise;
+        if span.ending == CUT {
+            self.inside = true;
+            self.taken = end;
+            self.append(&rest[..span.length], span.noise);
+            return Fed::no_report(0, DONE, n);
+        }
+        if span.ending == DONE {
+            return self.ended(heard.judged, end + 1, n + 1);
+        }
+        self.ended(heard.judged, end, n)
+    }
+
+    // What a feed makes of a record: 1 behind the end, 21 where the bytes would be too many, and then nothing changes.
+    #[tactic(auto, unfolding(crate::specs::Cable::feeding))]
+    fn take(&mut self, input: &[u8]) -> Fed
+        ensures { Leaves (feeding self.old input.now) self.new result }
+    {
+        if self.over {
+            return Fed::no_report(self.taken, NO_MESSAGE, 0);
+        }
+        if LIMIT < self.taken.saturating_add(input.len()) {
+            return Fed::no_report(0, TOO_MANY, 0);
+        }
+        if self.inside {
+            return self.follow(input);
+        }
+        self.seek(input)
+    }
+
+    // What the declared end tells: 2 for the message that is open, else 1.
+    fn last(&self) -> Fed
+        ensures { result ≡ last_told self.now.taken (held_by self.now) }
+    {
+        if self.inside {
+            return Fed::report(
+                refused(CUT),
+                self.start,
+                self.taken,
+                self.noise.min(self.taken),
+                0,
+            );
+        }
+        Fed::no_report(self.taken, NO_MESSAGE, 0)
+    }
+
+    // What the declared end makes of a record; behind it nothing changes.
+    #[tactic(auto, unfolding(crate::specs::Cable::ending))]
+    fn end(&mut self) -> Fed
+        ensures { Leaves (ending self.old) self.new result }
+    {
+        if self.over {
+            return Fed::no_report(self.taken, NO_MESSAGE, 0);
+        }
+        let fed = self.last();
+        *self = Cable::at_rest(self.taken, true);
+        fed
     }
 }
 
-// What an interrupted message comes to.
-fn interrupted() -> Judged
-    ensures { result ≡ refused_by (outcome 3 0) }
+// A fresh start.
+pub fn fresh() -> Cable
+    ensures { result ≡ fresh_record }
 {
-    Judged {
-        outcome: answers::refused(INTERRUPTED, 0),
-        bytes: [0, 0, 0, 0],
-    }
-}
-
-// Inside a message: on to its end, or all of the input. The caller below has seen that one is open, that the room is a record's, and
-// that the places fit.
-fn follow(room: &mut [u8], held: Held, input: &[u8]) -> Turn
-    requires { (held.inside ≡ true) × (length room.old ≡ room_size) × (held.taken + length input.now ≤ limit) }
-    ensures { Turns (goes (record_in room.old held) input.now) room.new result }
-{
-    let start = held.start;
-    let place = held.taken;
-    let before = least_of(held.noise, place);
-    let span = frames::find_end(input);
-    let n = span.length;
-    let noise = before + span.noise;
-    if span.ending == INTERRUPTED {
-        clear(room);
-        return ended(interrupted(), start, place + n, noise, n);
-    }
-    let count = append(room, held.count, &input[..n], span.noise);
-    if span.ending == CUT {
-        return goes_on(start, count, noise, place + n, n);
-    }
-    let mut packed = [0u8; ROOM];
-    let judged = judging::record_kept(&room[..count], &mut packed);
-    put_all(&packed, room);
-    ended(judged, start, place + n + 1, noise, n + 1)
-}
-
-// Outside a message: on to the end of the next one, or all of the input. A message that stands there whole is read where it stands. The
-// caller below has seen that the room is a record's, and that the places fit.
-fn seek(room: &mut [u8], place: usize, input: &[u8]) -> Turn
-    requires { (length room.old ≡ room_size) × (place + length input.now ≤ limit) }
-    ensures { Turns (step_by cleared place (taken judge place outside input.now)) room.new result }
-{
-    clear(room);
-    let i = frames::find_start(input);
-    if input.len() <= i {
-        return Turn {
-            held: Held {
-                inside: false,
-                over: false,
-                count: 0,
-                start: 0,
-                noise: 0,
-                taken: place + i,
-            },
-            fed: no_report(0, DONE, i),
-        };
-    }
-    let start = place + i;
-    let rest = &input[i + 1..];
-    let heard = judging::record_from(rest, room);
-    let span = heard.span;
-    let judged = heard.judged;
-    let m = span.length;
-    let n = i + 1 + m;
-    if span.ending == CUT {
-        let count = append(room, 0, &rest[..m], span.noise);
-        return goes_on(start, count, span.noise, place + n, n);
-    }
-    if span.ending == DONE {
-        return ended(judged, start, place + n + 1, span.noise, n + 1);
-    }
-    ended(judged, start, place + n, span.noise, n)
-}
-
-// The bytes taken and so many more are above the limit.
-fn too_many(taken: usize, more: usize) -> bool
-    ensures { result ≡ ltb limit (taken + more) }
-{
-    if LIMIT < taken {
-        return true;
-    }
-    LIMIT - taken < more
-}
-
-// What a feed makes of a record: 1 behind the end, 21 where the bytes would be too many, and then nothing changes. The caller below lends
-// the room of a record.
-fn take(room: &mut [u8], held: Held, input: &[u8]) -> Turn
-    requires { length room.old ≡ room_size }
-    ensures { Turns (feeding (record_in room.old held) input.now) room.new result }
-{
-    let place = held.taken;
-    if held.over {
-        return Turn {
-            held,
-            fed: no_report(place, NO_MESSAGE, 0),
-        };
-    }
-    if too_many(place, input.len()) {
-        return Turn {
-            held,
-            fed: no_report(0, TOO_MANY, 0),
-        };
-    }
-    if held.inside {
-        return follow(room, held, input);
-    }
-    seek(room, place, input)
+    Cable::at_rest(0, false)
 }
 
 // Takes bytes up to the end of the next message, or all if none ends, and tells how many, with the report or that none has ended. Refused by
-// 1 behind the end, by 21 where the input's length and the bytes taken so far add up to more than LIMIT: then nothing changes. The room is
-// copied in here and out, and lent in between.
-pub fn feed(state: Cable, input: &[u8]) -> Step
+// 1 behind the end, by 21 where the input's length and the bytes taken so far add up to more than LIMIT: then nothing changes.
+pub fn feed(mut state: Cable, input: &[u8]) -> Step
     ensures { result ≡ feeding state input.now }
 {
-    let mut bytes = state.bytes;
-    let held = Held {
-        inside: state.inside,
-        over: state.over,
-        count: state.count,
-        start: state.start,
-        noise: state.noise,
-        taken: state.taken,
-    };
-    let turn = take(&mut bytes, held, input);
-    let next = turn.held;
-    let fed = turn.fed;
-    Step {
-        state: Cable {
-            bytes,
-            inside: next.inside,
-            over: next.over,
-            count: next.count,
-            start: next.start,
-            noise: next.noise,
-            taken: next.taken,
-        },
-        fed,
-    }
-}
-
-// The report of the message that is open where the input ends.
-fn cut(state: Cable) -> Fed
-    ensures { result ≡ told 0 (some (report state.start state.taken (refused (outcome 2 0)) (least state.noise state.taken))) }
-{
-    let end = state.taken;
-    Fed {
-        reading: Reading {
-            report: Report {
-                start: state.start,
-                end,
-                outcome: answers::refused(CUT, 0),
-                noise: least_of(state.noise, end),
-            },
-            bytes: [0, 0, 0, 0],
-        },
-        taken: 0,
-        ended: true,
-    }
+    let fed = state.take(input);
+    Step { state, fed }
 }
 
 // Declares the end: 2 for the message that is open, else 1. Again, it changes nothing and gives 1.
-pub fn end(state: Cable) -> Step
+pub fn end(mut state: Cable) -> Step
     ensures { result ≡ ending state }
 {
-    let place = state.taken;
-    if state.over {
-        return Step {
-            state,
-            fed: no_report(place, NO_MESSAGE, 0),
-        };
-    }
-    if state.inside {
-        return Step {
-            state: at_rest(place, true),
-            fed: cut(state),
-        };
-    }
-    Step {
-        state: at_rest(place, true),
-        fed: no_report(place, NO_MESSAGE, 0),
-    }
+    let fed = state.end();
+    Step { state, fed }
 }

@@ -1,16 +1,16 @@
--- What the parts of a call leave: bytes kept in lent room, and the record of a message that ended.
-use Rattle.std.specs.Prelude.{◌≡◌, true, false, cond, List, ℕ, ◌%◌, eqb, length, take}
+-- What the parts of a call leave: bytes kept in lent room, the record of a message that grows or has ended, and its report.
+use Rattle.std.specs.Prelude.{◌≡◌, false, true, cond, List, ℕ, ◌%◌, ◌++◌, eqb, length, take}
 use Rattle.answers.specs.declared.Outcome.{Outcome}
 use Rattle.answers.specs.Effect.{at_start}
+use Rattle.streams.specs.Bytes.{without_real_time}
 use Rattle.messages.specs.Kinds.{kind_of}
 use Rattle.messages.specs.code.Sizes.{packed_size}
 use Rattle.judging.specs.declared.Judged.{Judged}
 use Rattle.reading.specs.code.Told.{report_as}
 use Rattle.cable.specs.declared.Cable.{Cable}
-use Rattle.cable.specs.declared.Held.{Held}
+use Rattle.cable.specs.declared.Fed.{Fed}
 use Rattle.cable.specs.declared.Step.{Step}
-use Rattle.cable.specs.declared.Turn.{Turn}
-use Rattle.cable.specs.Cable.{no_report}
+use Rattle.cable.specs.Cable.{room}
 
 -- The bytes w stand at the start of a lent buffer, as many as fit, and n is how many these are.
 pub record Kept (w old new : List ℕ) (n : ℕ) : Type 0 where
@@ -21,28 +21,22 @@ pub record Kept (w old new : List ℕ) (n : ℕ) : Type 0 where
 abbrev pub size_told : Outcome → ℕ
 size_told o = cond (eqb o.answer 0) (packed_size (kind_of (o.detail % 256))) 0
 
--- A record with a room and what stands beside it, and that of a record.
-abbrev pub record_in : List ℕ → Held → Cable
-record_in b h =
-    record { bytes = b; inside = h.inside; over = h.over; count = h.count; start = h.start; noise = h.noise; taken = h.taken }
+-- A record in whose room the bytes w stand, as many as fit, over what was there.
+abbrev pub keeping : Cable → List ℕ → Cable
+keeping c w = let b = take room w in record c { bytes = at_start b c.bytes; count = length b }
 
-abbrev pub held_in : Cable → Held
-held_in c = record { inside = c.inside; over = c.over; count = c.count; start = c.start; noise = c.noise; taken = c.taken }
+-- A record of a message with the bytes t more of it.
+abbrev pub grown : Cable → List ℕ → Cable
+grown c t = keeping c (take c.count c.bytes ++ without_real_time t)
 
--- What a call that is lent the room leaves there and gives is the step s.
-pub record Turns (s : Step) (after : List ℕ) (r : Turn) : Type 0 where
-  pub room : after ≡ s.state.bytes
-  pub held : r.held ≡ held_in s.state
-  pub fed : r.fed ≡ s.fed
+-- What a call tells that took n bytes and with them the end e of a message from place f on, with k real time in it, that comes to j.
+abbrev pub reported : Judged → ℕ → ℕ → ℕ → ℕ → Fed
+reported j f e k n = record { reading = record { report = report_as f e j.outcome k; bytes = j.bytes }; taken = n; ended = true }
 
--- The call that took n bytes and with them the end e of a message.
-abbrev pub ended_as : Judged → ℕ → ℕ → ℕ → ℕ → Turn
-ended_as j f e k n =
-    record {
-      held = record { inside = false; over = false; count = size_told j.outcome; start = 0; noise = 0; taken = e };
-      fed = record { reading = record { report = report_as f e j.outcome k; bytes = j.bytes }; taken = n; ended = true };
-    }
+-- A record whose message has come to j at place e, its packed bytes in the room b.
+abbrev pub closed_at : List ℕ → Judged → ℕ → Cable
+closed_at b j e = record { bytes = b; inside = false; over = false; count = size_told j.outcome; start = 0; noise = 0; taken = e }
 
--- The call that took n bytes, up to place e, with m bytes of the message from place f in the room.
-abbrev pub open_as : ℕ → ℕ → ℕ → ℕ → ℕ → Turn
-open_as f m k e n = record { held = record { inside = true; over = false; count = m; start = f; noise = k; taken = e }; fed = no_report 0 0 n }
+-- What a call that took n bytes leaves and tells of a record whose message has come to j at place e, its packed bytes in the room.
+abbrev pub closing : Cable → Judged → ℕ → ℕ → Step
+closing c j e n = record { state = closed_at c.bytes j e; fed = reported j c.start e c.noise n }
