@@ -1,29 +1,33 @@
 -- What the rows of an edit come to, by what the tests behind them say, and what rows that pass tell of the edit.
 use mathlib.Core.Path.{◌≡◌, refl, sym, ap, ◌∙◌}
-use mathlib.Core.Bool.{Bool, true, false, cond, ◌&&◌, ◌||◌}
+use mathlib.Core.Bool.{Bool, true, false, cond, ◌||◌}
 use mathlib.Core.List.{List, [], ◌∷◌, ◌++◌}
 use mathlib.Core.Option.{Option, none, some}
-use Prim.Native.Nat.{ℕ, suc, ◌+◌, ◌*◌, ◌≤◌}
+use Prim.Native.Nat.{ℕ, ◌+◌, ◌*◌, ◌≤◌}
 use native.Mathlib.Omega.{arith}
-use lib.Dec.{leb, ltb}
-use lib.ListN.{length, set}
-use borrow.Author.Tests.{eq-eqb, ne_eqb, le-leb, le-ltb, leb-true, ltb-false}
-use Rattle.answers.specs.Table.{Row, row, row_found, done, first, outcome}
+use lib.Dec.{ltb}
+use lib.Seq.{sets}
+use borrow.Author.Tests.{le-ltb, ltb-false}
+use Rattle.std.specs.Prelude.{Ok, Err}
+use Rattle.answers.specs.Table.{Row, row, row_at, row_found, Found, done, first}
 use Rattle.answers.specs.declared.Outcome.{Outcome}
-use Rattle.answers.specs.Effect.{Gives, tested, changed}
-use Rattle.answers.proofs.Lists.{all_append}
-use Rattle.answers.proofs.Effects.{gives_kept, gives_kept_behind, gives_changed}
-use Rattle.answers.proofs.Rows.{Refusals, first_append, first_passed, answered_silent, row_silent, row_at_silent, row_found_silent, row_equal}
+use Rattle.answers.specs.declared.Refusal.{Refusal}
+use Rattle.answers.specs.Effect.{changed}
+use Rattle.answers.specs.Refusals.{outcome_by}
+use Rattle.answers.proofs.Refusals.{never_done, done_silent}
+use Rattle.answers.proofs.Rows.{Refusals, first_append, first_passed, passed_over, stopped, row_silent, row_at_silent, row_found_silent}
 use Rattle.answers.specs.promises.Decides.{Silent}
 use Rattle.ranges.specs.Ranges.{out_from}
-use Rattle.ranges.proofs.Runs.{one_in, one_more_in, none_out, further, out_further}
+use Rattle.ranges.proofs.Runs.{one_in, further, out_further}
 use Rattle.fields.specs.Fields.{fields, in_range, place_of}
 use Rattle.patch.specs.Patch.{half_used, length_row, patch_rows}
 use Rattle.fields.specs.code.Lookups.{bus_table}
 use Rattle.fields.proofs.Buses.{bus_rows_hold}
 use Rattle.edits.specs.Edits.{extended, stored_for, out_at, edit_rows, bus_rows, with_byte, with_bus, applying, applying_bus}
-use Rattle.edits.specs.code.Storing.{editing, storing, storing_bus, Stored}
-use Rattle.edits.specs.code.Value.{value_rows, allowed_at}
+use Rattle.edits.specs.declared.change.Change.{Change}
+use Rattle.edits.specs.code.Judged.{Judged}
+use Rattle.edits.specs.code.Storing.{storing, storing_bus}
+use Rattle.edits.specs.code.Value.{value_rows}
 
 -- The rows of a remote edit whose parameter has a place are the tests of its value there.
 pub rows_at : (n v k : ℕ) → place_of n ≡ some k → edit_rows n v ≡ value_rows k n v
@@ -35,52 +39,19 @@ pub rows_nowhere : (n v : ℕ) → place_of n ≡ none → edit_rows n v ≡ row
 unfolding edit_rows
 rows_nowhere n v e = rw e
 
--- A remote edit whose parameter has a place, whatever rows follow its own.
-pub editing_at : (n v k : ℕ) (more : List Row) (p : List ℕ) → place_of n ≡ some k
-    → editing n v more p ≡ changed 0 (set p k (stored_for n v)) p (first (value_rows k n v ++ more) (done 0 [] []))
-editing_at n v k more p e =
-    ap (λ (o : Option ℕ). changed 0 (with_byte o (stored_for n v) p) p (first (edit_rows n v ++ more) (done 0 [] []))) e
-    ∙ ap (λ (rows : List Row). changed 0 (set p k (stored_for n v)) p (first (rows ++ more) (done 0 [] []))) (rows_at n v k e)
+-- An edit that is judged, behind which some rows may still refuse it.
+module _ {N : ℕ} (rows : List Row) (edited : List ℕ → List ℕ) (more : List Row) (p : List ℕ) where
+  -- Refused, it keeps every byte.
+  pub judged_refused : (x : Refusal) → Judged {N = N} rows edited (Err x)
+      → changed 0 (edited p) p (first (rows ++ more) (done 0 [] [])) ≡ record { result = outcome_by x; lent = p }
+  judged_refused x j =
+      rw (stopped rows more (done 0 [] []) (λ z. never_done x (ap (λ (o : Outcome). o.answer) j.told ∙ z)))
+      (ap (λ (o : Outcome). record { result = o; lent = p }) (sym j.told))
 
--- Where it has none, it is refused by 8.
-pub editing_nowhere : (n v : ℕ) (more : List Row) (p : List ℕ) → place_of n ≡ none → editing n v more p ≡ record { result = outcome 8 0; lent = p }
-editing_nowhere n v more p e =
-    ap (λ (rows : List Row). changed 0 (with_byte (place_of n) (stored_for n v) p) p (first (rows ++ more) (done 0 [] []))) (rows_nowhere n v e)
-
--- Applying a remote edit, where its parameter has a place and where it has none.
-pub applying_at : (n v k : ℕ) (p : List ℕ) → place_of n ≡ some k
-    → applying n v p ≡ changed 0 (set p k (stored_for n v)) p (first (value_rows k n v ++ patch_rows p) (done 0 [] []))
-unfolding applying
-applying_at n v k p e = editing_at n v k (patch_rows p) p e
-
-pub applying_nowhere : (n v : ℕ) (p : List ℕ) → place_of n ≡ none → applying n v p ≡ record { result = outcome 8 0; lent = p }
-unfolding applying
-applying_nowhere n v p e = editing_nowhere n v (patch_rows p) p e
-
--- The test of a patch's length.
-pub length_refused : (p : List ℕ) → (length p ≡ 134 → ⊥) → (tested (length_row p ∷ [])).answer ≡ 0 → ⊥
-length_refused p n z = n (row_equal 7 (length p) 134 (answered_silent (length_row p ∷ []) (omega arith) z).0)
-
-pub length_silent : (p : List ℕ) → length p ≡ 134 → Silent (length_row p ∷ [])
-length_silent p e = (rw (eq-eqb (length p) 134 e), tt)
-
--- What a call tells in one word: not done, where rows refuse or those behind them do; done, where none does.
-module _ (new old : List ℕ) (rows more : List Row) where
-  not_told : (r : Outcome) → Gives (changed 0 new old (first (rows ++ more) (done 0 [] []))) r old → (r.answer ≡ 0 → ⊥)
-      → Stored (changed 0 new old (first (rows ++ more) (done 0 [] []))) false old
-  not_told r g n = record { told = rw (← g.result) (sym (ne_eqb r.answer 0 n)); lent = g.lent }
-
-  pub told_kept : ((tested rows).answer ≡ 0 → ⊥) → Stored (changed 0 new old (first (rows ++ more) (done 0 [] []))) false old
-  told_kept n = not_told (tested rows) (gives_kept 0 new old rows more (done 0 [] []) (tested rows) refl n) n
-
-  pub told_kept_behind : Silent rows → ((tested more).answer ≡ 0 → ⊥) → Stored (changed 0 new old (first (rows ++ more) (done 0 [] []))) false old
-  told_kept_behind s n = not_told (tested more) (gives_kept_behind 0 new old rows more (done 0 [] []) (tested more) s refl n) n
-
-  pub told_changed : (after : List ℕ) → Silent rows → Silent more → after ≡ new
-      → Stored (changed 0 new old (first (rows ++ more) (done 0 [] []))) true after
-  told_changed after s t e =
-      let g = gives_changed 0 new old (rows ++ more) (outcome 0 0) after (all_append _ rows more s t) refl e in
-      record { told = rw (← g.result); lent = g.lent }
+  -- Passed, it is left to those rows.
+  pub judged_passed : (c : Change N) → Refusals rows → Judged rows edited (Ok c)
+      → changed 0 (edited p) p (first (rows ++ more) (done 0 [] [])) ≡ changed 0 (sets p c.at c.bytes) p (first more (done 0 [] []))
+  judged_passed c a j = rw (passed_over rows more (done 0 [] []) (done_silent rows 0 a j.told), j.stores p) refl
 
 -- In a patch that passes its tests storing an edit is applying it.
 module _ (p : List ℕ) (s : Silent (patch_rows p)) where
@@ -102,6 +73,12 @@ pub bus_out : (b s a d : ℕ) → b ≤ 9 → out_from fields (104 + 3 * b) (s �
 bus_out b s a d h =
     let here : 104 + 3 * b + 0 ≡ 104 + 3 * b = omega arith in
     rw here at (out_further fields bus_table (104 + 3 * b) 0 (s ∷ a ∷ d ∷ []) (λ i l. bus_rows_hold b h i (omega arith)))
+
+-- The rows of a matrix modulation edit whose bus and amount are allowed, by what they find in the bytes as they are stored.
+pub bus_rows_at : (b s a d : ℕ) (o : Option Found) → b ≤ 9 → a ≤ 127 → out_from bus_table 0 (s ∷ extended a ∷ d ∷ []) ≡ o
+    → bus_rows b s a d ≡ row 8 false ∷ row_found 11 (further (104 + 3 * b) o) ∷ row_at 12 (cond (half_used s d) (some b) none) ∷ []
+unfolding bus_rows
+bus_rows_at b s a d o h l e = rw (le-ltb 9 b h, le-ltb 127 a l, bus_out b s (extended a) d h, e) refl
 
 -- The rows of an edit are refusals: of a value at its place, of a remote edit, of a matrix modulation edit.
 pub value_refusals : (k n v : ℕ) → Refusals (value_rows k n v)
@@ -125,24 +102,6 @@ value_small k n v a = ltb-false 127 v (row_silent 8 (ltb 127 v) a.0)
 pub value_inside : (k n v : ℕ) → Silent (value_rows k n v) → in_range k (stored_for n v) ≡ true
 unfolding value_rows
 value_inside k n v a = (one_in fields k (stored_for n v) [] (row_found_silent 11 (out_at (some k) (stored_for n v)) a.1.0)).0
-
--- A value that is allowed passes its tests; one that is not is refused by them.
-pub allowed_silent : (k n v : ℕ) → allowed_at k n v ≡ true → Silent (value_rows k n v)
-unfolding value_rows
-allowed_silent k n v e = go (leb v 127) (in_range k (stored_for n v)) refl refl e
-  where
-    go : (t u : Bool) → leb v 127 ≡ t → in_range k (stored_for n v) ≡ u → (t && u) ≡ true → Silent (row 8 (ltb 127 v) ∷ row_found 11 (out_at (some k) (stored_for n v)) ∷ [])
-    go true true q r e = (rw (le-ltb 127 v (leb-true v 127 q)), (rw (one_more_in fields k (stored_for n v) [] r (none_out fields (suc k))), tt))
-    go true false q r e = let z : ◌≡◌ {A = ℕ} 0 1 = cc in absurd (omega arith)
-    go false u q r e = let z : ◌≡◌ {A = ℕ} 0 1 = cc in absurd (omega arith)
-
-pub not_allowed : (k n v : ℕ) → allowed_at k n v ≡ false → (tested (value_rows k n v)).answer ≡ 0 → ⊥
-not_allowed k n v e z =
-    let s = answered_silent (value_rows k n v) (value_refusals k n v) z in
-    let t = le-leb v 127 (value_small k n v s) in
-    let u = value_inside k n v s in
-    let y : ◌≡◌ {A = ℕ} 0 1 = cc in
-    omega arith
 
 -- Neither of two tests holds where one of them would be enough.
 pub neither : (s t : Bool) → (s || t) ≡ false → (s ≡ false) × (t ≡ false)

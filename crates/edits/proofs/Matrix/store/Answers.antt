@@ -1,0 +1,21 @@
+-- Refused by its own tests, or left to the patch's length.
+use mathlib.Core.List.{[], ◌∷◌}
+use mathlib.Core.Path.{refl, sym}
+use borrow.Author.Tests.{ne_eqb}
+use Rattle.answers.proofs.Refusals.{never_done}
+use Rattle.patch.specs.Patch.{length_row}
+use Rattle.edits.specs.code.Storing.{storing_bus}
+use Rattle.edits.proofs.Tests.{judged_refused, judged_passed, bus_refusals}
+use Rattle.edits.proofs.Matrix.store.Goals as goal
+
+pub returns-in-Ok : goal.returns-in-Ok
+unfolding storing_bus
+returns-in-Ok c =
+    let a = c.args in
+    rw (judged_passed _ _ (length_row a.p.now ∷ []) a.p.now c.in-Ok.change (bus_refusals a.self.bus a.self.source a.self.amount a.self.destination) c.in-Ok.ensures) c.store.ensures
+
+pub returns-in-Err : goal.returns-in-Err
+unfolding storing_bus
+returns-in-Err c =
+    rw (judged_refused _ _ (length_row c.args.p.now ∷ []) c.args.p.now c.in-Err.field-0 c.in-Err.ensures)
+    (record { told = sym (ne_eqb _ 0 (never_done c.in-Err.field-0)); lent = refl })
