@@ -7,8 +7,8 @@ use Rattle.std.proofs.Math.Nat.{mul-div-le, mul-le-mul_left}
 use Rattle.std.proofs.lemmas.List.{take_more, take-take}
 use Rattle.std.proofs.lemmas.List.Elements.{All-append, All-get_or, All-take, All-head, All-tail, All-weaker}
 use Rattle.streams.specs.Bytes.{body, real_time_in}
-use Rattle.streams.proofs.Bytes.{goes_on, body_on, body_within}
-use Rattle.streams.proofs.Noise.{noise_none, noise_one, noise_more, noise_other, noise_append, kept_and_dropped}
+use Rattle.streams.proofs.Bytes.{goes_on, body_on}
+use Rattle.streams.proofs.Noise.{noise_none, noise_one, noise_more, noise_other, noise_append}
 use Rattle.frames.specs.declared.Span.{Span}
 use Rattle.frames.specs.declared.Ending.{Ending}
 use Rattle.frames.specs.declared.Ending.TheVariants.{Whole, Interrupted, Cut}
@@ -32,6 +32,7 @@ block_is : (n k i : ℕ) (s : List ℕ) (blocks : List (List ℕ)) → blocks �
 block_is n k i s blocks e h =
     ap (λ (l : List (List ℕ)). get_or l i []) e ∙ block_at n k i s (omega (arith, ap length e, length-first_chunks n k s))
 
+-- Of one block more.
 pub block_more : (P : ℕ → Type 0) (n k i : ℕ) (s : List ℕ) (blocks : List (List ℕ)) → blocks ≡ first_chunks n k s → i < length blocks
     → All P (take (n * i) s) → All P (get_or blocks i []) → All P (take (n * (i + 1)) s)
 block_more P n k i s blocks e h before here =
@@ -89,11 +90,8 @@ onward_block n i s blocks m k e h o goes heard =
     omega (arith, mul-le-mul_left n within, mul-div-le (length s) n, length-drop (n * i) s) in
     rw (← next, heard, b) (onward_then s (n * i) n m (real_time_in (take n (drop (n * i) s))) o (onward_past (drop (n * i) s) n room (rw b at goes)))
 
--- One byte more, a data byte or real time.
+-- One byte more, a data byte or real time; and the span where nothing is left of the body.
 module _ (s : List ℕ) where
-  pub onward_none : Onward s 0 0
-  onward_none = record { within = omega arith; fewer = omega arith; counted = omega arith; heard = omega arith }
-
   onward_on : (i n : ℕ) → i < length s → Goes (get_or s i 0) → Onward s i n → Onward s (i + 1) (n + real_time_in (get_or s i 0 ∷ []))
   onward_on i n h goes o =
       let b = get_or s i 0 in
@@ -116,7 +114,6 @@ module _ (s : List ℕ) where
       let one = noise_more (get_or s i 0) [] high ∙ ap suc noise_none in
       rw one at (onward_on i n h (λ e. omega (arith, e.1)) o)
 
-  -- The span by what is left: nothing of the body, before a byte that ends it or at the end of the bytes; or more of it.
   left : (i n : ℕ) (e : Ending) → Onward s i n → body (drop i s) ≡ [] → ending_of (drop i s) ≡ e
       → ◌≡◌ {A = Span} (record { length = i; noise = n; ending = e }) (span_of s)
   unfolding span_of
@@ -134,19 +131,7 @@ module _ (s : List ℕ) where
       let whole : i ≡ length s = omega (arith, o.within) in
       rw whole at (left i n Cut o (body_end s i h) (rw (drop_of_length-le s h)))
 
-  pub span_past : (i n : ℕ) → Onward s i n → ◌≡◌ {A = Span} (let t = span_of (drop i s) in record { length = i + t.length; noise = n + t.noise; ending = t.ending }) (span_of s)
-  unfolding span_of
-  span_past i n o = rw (o.counted, o.heard, drop-drop (length (body (drop i s))) i s)
-
-  -- No more bytes are counted than there are.
-  pub span_length : (span_of s).length ≤ length s
-  unfolding span_of
-  span_length = body_within s
-
-  pub span_noise : (span_of s).noise ≤ length s
-  unfolding span_of
-  span_noise = omega (arith, kept_and_dropped (body s), body_within s)
-
+-- Of what all bytes have but one.
 pub all_before : (P : ℕ → Type 0) (s : List ℕ) (i : ℕ) → All P (take (i + 1) s) → All P (take i s)
 all_before P s i a =
     let fewer : i ≤ i + 1 = omega arith in rw take-take at (All-take P i (take (i + 1) s) a)

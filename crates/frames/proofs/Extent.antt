@@ -5,10 +5,9 @@ use borrow.Author.Tests.{eqb-true, eqb-false}
 use Rattle.std.specs.List.{All, prefix_len}
 use Rattle.std.proofs.lemmas.List.Elements.{All-head, All-tail}
 use Rattle.streams.specs.Bytes.{body}
-use Rattle.frames.specs.declared.Ending.{Ending}
 use Rattle.frames.specs.declared.Ending.TheVariants.{Whole, Interrupted, Cut}
 use Rattle.frames.specs.code.Extent.{ahead, start_at, ending_of}
-use Rattle.frames.specs.code.Blocks.{Ends}
+use Rattle.frames.specs.code.Blocks.{Goes}
 use Rattle.streams.proofs.Bytes.{ends_there, goes_on, body_on, body_stop}
 
 -- The byte at an index and what follows it.
@@ -17,7 +16,7 @@ split s i h = rw (add-one, drop-cons s i 0)
 
 module _ (s : List ℕ) (i : ℕ) (h : i < length s) where
   -- The body goes on over a data byte and over real time, and stops before any other byte.
-  pub body_goes : (Ends (get_or s i 0) → ⊥) → body (drop i s) ≡ get_or s i 0 ∷ body (drop (i + 1) s)
+  pub body_goes : Goes (get_or s i 0) → body (drop i s) ≡ get_or s i 0 ∷ body (drop (i + 1) s)
   body_goes n = rw (split s i h) (body_on _ _ (goes_on _ (λ k l. n (k, l))))
 
   pub body_ended : 0x80 ≤ get_or s i 0 → get_or s i 0 ≤ 0xF7 → body (drop i s) ≡ []
@@ -39,11 +38,13 @@ ahead_is (b ∷ s) = by_test (eqb b 0xF0) (ahead_is s)
     by_test true e = refl
     by_test false e = omega arith
 
+-- An F0H stands at once.
 pub ahead_now : (s : List ℕ) → 0 < length s → get_or s 0 0 ≡ 0xF0 → ahead s ≡ 0
 unfolding ahead
 ahead_now [] h e = absurd (omega arith)
 ahead_now (b ∷ s) h e = rw (eq-eqb b 0xF0 e)
 
+-- Bytes without an F0H are passed over.
 pub ahead_past : (s : List ℕ) (n : ℕ) → n ≤ length s → All (λ b. b ≢ 0xF0) (take n s) → ahead s ≡ n + ahead (drop n s)
 unfolding ahead
 ahead_past s zero h a = omega arith

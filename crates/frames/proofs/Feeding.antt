@@ -1,7 +1,6 @@
 -- What a call that is fed bytes takes, by the counts that the code has: from outside by the bytes before the first F0H, inside a message by its span.
-use Rattle.std.proofs.Common.{◌≡◌, ℕ, suc, ◌+◌, ◌<◌, ◌≤◌, Bool, true, false, cond, eqb, List, [], ◌∷◌, ◌++◌, length, get_or, take, drop, sym, refl, ap, ◌∙◌, add-zero, arith, length-take-le, eqb-true}
+use Rattle.std.proofs.Common.{◌≡◌, ℕ, suc, ◌+◌, ◌<◌, ◌≤◌, Bool, true, false, cond, eqb, List, [], ◌∷◌, ◌++◌, length, get_or, take, drop, sym, refl, ap, ◌∙◌, add-zero, arith, length-take-le}
 use mathlib.Core.Option.{none, some}
-use borrow.Author.Tests.{eqb-false}
 use Rattle.answers.specs.Table.{Verdict, refused, outcome}
 use Rattle.streams.specs.Bytes.{byte_kind, body, without_real_time, real_time_in, framed}
 use Rattle.streams.specs.Stream.{report}

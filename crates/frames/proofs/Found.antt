@@ -1,6 +1,6 @@
 -- The walk by counts: how many bytes stand before the first F0H, and how the message there ends.
 -- The walk goes by the bytes before the F0H; the message by what stands behind its body.
-use Rattle.std.proofs.Common.{◌≡◌, ℕ, suc, ◌+◌, ◌<◌, ◌≤◌, Bool, true, false, cond, eqb, List, [], ◌∷◌, length, get_or, drop, refl, ◌∙◌, add-zero, arith, length-drop, drop-drop, eq-eqb, ne_eqb, eqb-true}
+use Rattle.std.proofs.Common.{◌≡◌, ℕ, suc, ◌+◌, ◌<◌, ◌≤◌, Bool, true, false, cond, eqb, List, [], ◌∷◌, length, get_or, drop, refl, ◌∙◌, add-zero, arith, length-drop, drop-drop}
 use mathlib.Core.Option.{none, some}
 use Rattle.answers.specs.Table.{Verdict, refused, outcome}
 use Rattle.streams.specs.Bytes.{body, without_real_time, real_time_in, framed}

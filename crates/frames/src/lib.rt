@@ -1,7 +1,7 @@
 // Finding system exclusive messages in a stream of bytes: where one starts, how far it runs, its bytes past real time.
 #![tactic(auto)]
 
-ghost use Rattle.std.specs.Prelude.{◌≡◌, ◌+◌, ◌≤◌, true, length, take, not, if◌then◌else◌, nat_eq, nat_lt};
+ghost use Rattle.std.specs.Prelude.{◌≡◌, ◌≤◌, true, length, take, not, if◌then◌else◌, nat_eq, nat_lt};
 ghost use Rattle.std.specs.List.{All, prefix_len};
 ghost use Rattle.streams.specs.Bytes.{real_time_in};
 ghost use Rattle.frames.specs.code.Extent.{ahead, start_at, span_of, past_real_time};
@@ -39,7 +39,8 @@ fn ended_by(b: u8) -> Ending
     }
 }
 
-// Whether each byte of a block passes: without a branch, so that they are seen at once.
+// Whether each byte of a block passes: without a branch, so that they are seen at once. `all` would stop at the first that does not; joined
+// by `|`, that none fails, they are tested in twice the time.
 fn all_pass<F: Fn(u8) -> bool>(block: &[u8], passes: F) -> bool
     requires { F.IsAlwaysCallable passes }
     ensures { result ≡ true → All (λ b. F.post passes b true) block.now }
@@ -122,9 +123,8 @@ fn skip_noisy(rest: &[u8]) -> Passed
     ensures { Onward rest.now result.length result.noise }
 {
     let mut noise: usize = 0;
-    match rest.first() {
-        Some(b) if goes_on(*b) => {}
-        _ => return Passed { length: 0, noise },
+    if !rest.first().is_some_and(|b| goes_on(*b)) {
+        return Passed { length: 0, noise };
     }
     let (blocks, _) = rest.as_chunks::<32>();
     for (i, block) in blocks.iter().enumerate() {
@@ -142,41 +142,31 @@ fn skip_noisy(rest: &[u8]) -> Passed
     }
 }
 
-// How far a message runs, byte by byte.
-fn span_by_bytes(rest: &[u8]) -> Span
+// How far a message runs, from the bytes behind its F0H. The last bytes are read by their place: over a part of the slice messages of a byte
+// take a tenth longer.
+pub fn find_end(rest: &[u8]) -> Span
     ensures { result ≡ span_of rest.now }
 {
-    let mut noise: usize = 0;
-    for (i, b) in rest.iter().enumerate() {
-        if END < *b {
-            noise += 1;
-        } else if 0x7F < *b {
-            return Span {
-                length: i,
-                noise,
-                ending: ended_by(*b),
-            };
+    let quiet = skip(rest, |b| b < 0x80);
+    let passed = skip_noisy(&rest[quiet..]);
+    let mut noise = passed.noise;
+    for i in quiet + passed.length..rest.len() {
+        match rest[i] {
+            0x00..=0x7F => {}
+            0xF8..=0xFF => noise += 1,
+            b => {
+                return Span {
+                    length: i,
+                    noise,
+                    ending: ended_by(b),
+                };
+            }
         }
     }
     Span {
         length: rest.len(),
         noise,
         ending: Ending::Cut,
-    }
-}
-
-// How far a message runs, from the bytes behind its F0H.
-pub fn find_end(rest: &[u8]) -> Span
-    ensures { result ≡ span_of rest.now }
-{
-    let quiet = skip(rest, |b| b < 0x80);
-    let passed = skip_noisy(&rest[quiet..]);
-    let before = quiet + passed.length;
-    let last = span_by_bytes(&rest[before..]);
-    Span {
-        length: before + last.length,
-        noise: passed.noise + last.noise,
-        ending: last.ending,
     }
 }
 

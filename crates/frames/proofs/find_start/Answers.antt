@@ -1,7 +1,6 @@
 -- `find_start` counts on behind the blocks that have no F0H.
-use Rattle.std.proofs.Common.{◌≡◌, ◌≢◌, ℕ, ◌+◌, ◌<◌, true, length, get_or, take, drop, sym, eqb-true, eq-eqb, length-drop, arith, rules}
+use Rattle.std.proofs.Common.{◌≡◌, ◌≢◌, ◌<◌, length, get_or, take, drop, sym, eqb-true, length-drop, arith, rules}
 use Rattle.std.specs.List.{All}
-use Rattle.std.proofs.lemmas.List.Elements.{All-weaker}
 use Rattle.answers.proofs.Lists.{to_end}
 use Rattle.frames.specs.code.Extent.{ahead}
 use Rattle.frames.proofs.Extent.{ahead_now, ahead_is, ahead_past, ahead_within}

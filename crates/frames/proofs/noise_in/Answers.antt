@@ -1,7 +1,4 @@
-use Rattle.std.proofs.Common.{◌≡◌, ℕ, ◌+◌, ◌/◌, ◌<◌, get_or, take, sym, arith, rules}
-use Rattle.std.specs.List.{All}
-use Rattle.std.proofs.lemmas.List.Elements.{All-take}
-use Rattle.streams.specs.Bytes.{real_time_in}
+use Rattle.std.proofs.Common.{◌<◌, get_or, sym, arith, rules}
 use Rattle.streams.proofs.Noise.{noise_none}
 use Rattle.frames.specs.code.Blocks.{Goes}
 use Rattle.frames.proofs.Blocks.{all_before, noise_next}

@@ -1,5 +1,5 @@
 -- `past_real_time` counts from a place on; past the end there is nothing to count.
-use Rattle.std.proofs.Common.{◌≡◌, ◌+◌, drop, sym, arith, length-drop}
+use Rattle.std.proofs.Common.{◌≡◌, drop, sym, arith, length-drop}
 use Rattle.answers.proofs.Lists.{to_end}
 use Rattle.frames.specs.code.Extent.{real_time_ahead, past_real_time}
 use Rattle.frames.proofs.RealTime.{real_time_ahead_is, real_time_ahead_within, past_end}

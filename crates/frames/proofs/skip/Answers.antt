@@ -1,4 +1,4 @@
-use Rattle.std.proofs.Common.{ℕ, ◌/◌, true, length, refl}
+use Rattle.std.proofs.Common.{◌/◌, true, length, refl}
 use Rattle.frames.proofs.Blocks.{block_more}
 use Rattle.frames.proofs.skip.Goals as goal
 

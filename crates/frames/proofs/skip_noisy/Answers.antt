@@ -1,7 +1,7 @@
-use Rattle.std.proofs.Common.{◌≡◌, ℕ, ◌+◌, ◌*◌, ◌/◌, length, get_or, [], refl, arith}
+use Rattle.std.proofs.Common.{get_or, [], refl, arith}
 use Rattle.std.specs.List.{All}
-use Rattle.frames.specs.code.Blocks.{Goes, Onward}
-use Rattle.frames.proofs.Blocks.{onward_none, onward_block}
+use Rattle.frames.specs.code.Blocks.{Goes}
+use Rattle.frames.proofs.Blocks.{onward_block}
 use Rattle.frames.proofs.skip_noisy.Goals as goal
 
 pub loop-i-preserved : goal.loop-i-preserved

@@ -1,15 +1,12 @@
 -- Bytes passed over in blocks: what is known of them, and what is left to count.
-use Rattle.std.specs.Prelude.{◌≡◌, ℕ, ◌+◌, ◌<◌, ◌≤◌, List, length, drop}
+use Rattle.std.specs.Prelude.{◌≡◌, ℕ, ◌+◌, ◌≤◌, List, length, drop}
 use Rattle.streams.specs.Bytes.{body, real_time_in}
 
--- A byte that ends a message, and one that does not.
-abbrev pub Ends : ℕ → Type 0
-Ends b = (0x80 ≤ b) × (b ≤ 0xF7)
-
+-- A byte over which a message goes on: none in 80H..F7H.
 abbrev pub Goes : ℕ → Type 0
-Goes b = Ends b → ⊥
+Goes b = (0x80 ≤ b) × (b ≤ 0xF7) → ⊥
 
--- None of the first r bytes ends the message, and n of them are real time: what is left of the body starts there.
+-- The message goes on over the first r bytes, of which n are real time: what is left of the body starts there.
 pub record Onward (s : List ℕ) (r n : ℕ) : Type 0 where
   pub within : r ≤ length s
   pub fewer : n ≤ r
