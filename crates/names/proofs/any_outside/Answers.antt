@@ -1,29 +1,22 @@
-use mathlib.Core.Path.{◌∙◌, sym}
-use native.Mathlib.Omega.{arith}
-use borrow.Author.Rules.{rules}
-use borrow.Author.Tests.{lt-ltb, le-ltb}
+-- The search of the library, by the test of the definition.
+use Rattle.std.proofs.Common.{◌≡◌, ℕ, Bool, ◌||◌, ltb, List, refl, ◌∙◌, rules, tests}
+use Rattle.std.specs.List.{list_any}
+use Rattle.std.proofs.lemmas.Iterator.{YieldsList-from_slice}
+use Rattle.std.proofs.lemmas.Iterator.Search.{any_from_yields_List}
+use Rattle.std.proofs.lemmas.List.Recursion.{same_from_clauses}
 use Rattle.names.specs.Names.{any_outside}
-use Rattle.names.proofs.Steps.{outside_from, characters_done}
 use Rattle.names.proofs.any_outside.Goals as goal
 
-pub returns-then-t-lt32 : goal.returns-then-t-lt32
-unfolding any_outside
-returns-then-t-lt32 c =
-    let e = c.loop-i.invariant.1 ∙ outside_from c.args.text.now c.loop-i.i (omega arith) in
-    sym (e ∙ simp (lt-ltb _ _ c.if-t-lt32.true))
+abbrev outside : ℕ → Bool
+outside t = ltb t 32 || ltb 95 t
 
-pub returns-then-t-gt95 : goal.returns-then-t-gt95
+same : (text : List ℕ) → list_any outside text ≡ any_outside text
 unfolding any_outside
-returns-then-t-gt95 c =
-    let e = c.loop-i.invariant.1 ∙ outside_from c.args.text.now c.loop-i.i (omega arith) in
-    sym (e ∙ simp (le-ltb _ _ c.if-t-lt32.false, lt-ltb _ _ c.if-t-gt95.true))
-
-pub loop-i-preserved : goal.loop-i-preserved
-unfolding any_outside
-loop-i-preserved c =
-    let e = c.loop-i.invariant.1 ∙ outside_from c.args.text.now c.loop-i.i (omega arith) in
-    (search rules, e ∙ simp (le-ltb _ _ c.if-t-lt32.false, le-ltb _ _ c.if-t-gt95.false))
+same = same_from_clauses (list_any outside) any_outside (λ t b. outside t || b) refl (λ _ _. refl) (λ _ _. refl)
 
 pub returns : goal.returns
 returns c =
-    sym (c.loop-i.invariant.1 ∙ characters_done c.args.text.now c.loop-i.i c.loop-i-test.false)
+    let text = c.args.text.now in
+    any_from_yields_List outside _ _ c.any.result c.any.ensures.ran (YieldsList-from_slice text cc)
+    (λ x b q k. search (rules, tests))
+    ∙ same text
