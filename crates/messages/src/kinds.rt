@@ -195,6 +195,8 @@ pub struct Short {
     pub operands: Operands,
 }
 
+// What an opcode finds. `Unknown` is a kind, and no Option is around it, since the definitions under the theorems go by kinds with it
+// (`kind_of`, `message`, `kind_table` and others).
 #[derive(Clone, Copy, Debug, PartialEq, Eq)]
 pub enum Kind {
     Dump(Dump),

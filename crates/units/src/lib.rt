@@ -50,20 +50,22 @@ impl Act {
     fn step(self, report: Report) -> Step
         ensures { result ≡ told report (done_by self) }
     {
-        let silent = Step {
-            report,
-            unit: self.unit,
-            meant: self.meant,
-            count: 0,
-            sent: [0; SENT],
-        };
-        match self.sent {
+        let Act { unit, meant, sent } = self;
+        match sent {
             Some(sent) => Step {
+                report,
+                unit,
+                meant,
                 count: SENT as u8,
                 sent,
-                ..silent
             },
-            None => silent,
+            None => Step {
+                report,
+                unit,
+                meant,
+                count: 0,
+                sent: [0; SENT],
+            },
         }
     }
 }
