@@ -12,37 +12,31 @@ use frames::{END, START};
 use messages::kinds::{BusEdit, DEVICE, MAKER, PATCH, RemoteEdit};
 use pairs::same;
 
+// How the messages of the two edits begin.
+const REMOTE: [u8; 4] = [START, MAKER, DEVICE, RemoteEdit::OPCODE];
+
+const MATRIX: [u8; 4] = [START, MAKER, DEVICE, BusEdit::OPCODE];
+
 // Applies the edit whose message bytes begin with, and gives the bytes behind it: nothing where none is there or it is refused. The patch
 // has passed its tests, and an edit that is allowed leaves one that does, so that only the edit's own tests are made.
 fn follow<'s>(p: &mut [u8], s: &'s [u8]) -> Option<&'s [u8]>
     requires { Good p.old }
     ensures { Follows (first_edit s.now) p.old s.now result p.new }
 {
-    match s {
-        [
-            START,
-            MAKER,
-            DEVICE,
-            RemoteEdit::OPCODE,
-            parameter,
-            value,
-            END,
-            rest @ ..,
-        ] => edits::store_edit(p, Parameter(*parameter), *value).then_some(rest),
-        [
-            START,
-            MAKER,
-            DEVICE,
-            BusEdit::OPCODE,
-            bus,
-            source,
-            amount,
-            destination,
-            END,
-            rest @ ..,
-        ] => edits::store_bus_edit(p, *bus, *source, *amount, *destination).then_some(rest),
-        _ => None,
+    let (opening, own) = s.split_first_chunk()?;
+    if *opening == REMOTE {
+        let [parameter, value, END, rest @ ..] = own else {
+            return None;
+        };
+        return edits::store_edit(p, Parameter(*parameter), *value).then_some(rest);
     }
+    if *opening == MATRIX {
+        let [bus, source, amount, destination, END, rest @ ..] = own else {
+            return None;
+        };
+        return edits::store_bus_edit(p, *bus, *source, *amount, *destination).then_some(rest);
+    }
+    None
 }
 
 // Applies a list message by message: `true` where it is one, and every edit was allowed in turn.
