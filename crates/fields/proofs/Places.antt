@@ -1,8 +1,7 @@
 -- The place of a parameter, as the lookup finds it; and as one number, 255 where there is none, which is no place.
-use Rattle.std.proofs.Common.{◌≡◌, ℕ, ◌<◌, ◌≤◌, Bool, true, false, cond, ◌||◌, List, map, length, get_or, ltb, leb, sym, refl, ap, ◌∙◌, arith, ltb-false, ltb-true, ne_eqb, lt-ltb, le-leb}
+use Rattle.std.proofs.Common.{◌≡◌, ℕ, ◌<◌, ◌≤◌, Bool, true, false, cond, ◌||◌, List, map, length, get_or, ltb, leb, sym, refl, ap, ◌∙◌, arith, ltb-false, ltb-true, lt-ltb}
 use mathlib.Core.Option.{Option, none, some}
 use lib.ListN.{get_or-eq_default}
-use borrow.Author.Tests.{lt-leb}
 use Rattle.std.specs.List.{range_with_len}
 use Rattle.std.proofs.lemmas.List.FromFn.{get_or-map-range_with_len}
 use Rattle.std.specs.Prelude.{Option as Maybe, Some, None, Result, Ok, Err, ok_or}
@@ -53,12 +52,7 @@ numbered_some (some k) d = refl
 pub no_place_255 : (n : ℕ) → place_of n ≡ some 255 → ⊥
 no_place_255 n e = let h = (place_is_found n 255 e).high in omega arith
 
--- No place past the table has a parameter.
-pub parameter_past : (k : ℕ) → size ≤ k → parameter_of k ≡ none
-unfolding parameter_of
-parameter_past k h = simp (le-leb size k h)
-
--- One whose row has 255 there has none; another one of the table has the parameter of its row.
+-- A place whose row has 255 has no parameter.
 pub no_parameter_at : (k : ℕ) → parameter_at k ≡ 255 → parameter_of k ≡ none
 unfolding parameter_of
 no_parameter_at k e = rw e (go (leb size k))
@@ -66,10 +60,6 @@ no_parameter_at k e = rw e (go (leb size k))
     go : (t : Bool) → cond {A = Option ℕ} (t || true) none (some 255) ≡ none
     go true = refl
     go false = refl
-
-pub parameter_here : (k : ℕ) → k < size → (parameter_at k ≡ 255 → ⊥) → parameter_of k ≡ some (parameter_at k)
-unfolding parameter_of
-parameter_here k h d = simp (lt-leb size k h, ne_eqb _ _ d)
 
 -- No parameter above 99 has a place.
 pub place_past : (n : ℕ) → 99 < n → place_of n ≡ none

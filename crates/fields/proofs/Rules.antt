@@ -56,13 +56,16 @@ parameter_place k l h = is_some (place_of (parameter_at k)) k (edited k l h).1
 pub parameter_number : (k : ℕ) → 8 ≤ k → k < 104 → parameter_at k < 100
 parameter_number k l h = ltb→lt (parameter_at k) 100 (edited k l h).0
 
+-- A place of the table has the parameter of its row, where that is not 255.
+pub parameter_here : (k : ℕ) → k < 134 → (parameter_at k ≡ 255 → ⊥) → parameter_of k ≡ some (parameter_at k)
+unfolding parameter_of
+parameter_here k h d = simp (lt-leb 134 k h, ne_eqb _ _ d)
+
 -- Each place 8..103 has a parameter.
 pub parameter_known : (k : ℕ) → 8 ≤ k → k < 104 → parameter_of k ≡ some (parameter_at k)
-unfolding parameter_of
 parameter_known k l h =
     let n = parameter_number k l h in
-    let e : parameter_at k ≡ 255 → ⊥ = λ e. omega arith in
-    simp (lt-leb 134 k (omega arith), ne_eqb _ _ e)
+    parameter_here k (omega arith) (λ e. omega arith)
 
 unnumbered : (k : ℕ) → k < 134 → (leb 8 k && ltb k 104) ≡ false → parameter_of k ≡ none
 unfolding parameter_of
@@ -74,7 +77,8 @@ unnumbered k h e =
 pub name_unnumbered : (k : ℕ) → k < 8 → parameter_of k ≡ none
 name_unnumbered k h = unnumbered k (omega arith) (simp (lt-leb 8 k h))
 
-past_unnumbered : (k : ℕ) → 134 ≤ k → parameter_of k ≡ none
+-- No place past the table has one.
+pub past_unnumbered : (k : ℕ) → 134 ≤ k → parameter_of k ≡ none
 unfolding parameter_of
 past_unnumbered k h = simp (le-leb 134 k h)
 

@@ -279,7 +279,8 @@ const R132: Field = Field(132, NONE, 0xC0, 0x3F);
 
 const R133: Field = Field(133, NONE, 0, LAST_DESTINATION);
 
-// The whole listing: 134 rows of four numbers.
+// The whole listing: 134 rows of four numbers. They have names since a constant's value that cites the table counts all of it, and then the
+// tables below were too large.
 pub static FIELDS: [Field; PLACES] = [
     R0, R1, R2, R3, R4, R5, R6, R7, R8, R9, R10, R11, R12, R13, R14, R15, R16, R17, R18, R19, R20,
     R21, R22, R23, R24, R25, R26, R27, R28, R29, R30, R31, R32, R33, R34, R35, R36, R37, R38, R39,
@@ -291,8 +292,8 @@ pub static FIELDS: [Field; PLACES] = [
     R129, R130, R131, R132, R133,
 ];
 
-// Two of its columns: where the bytes of a patch are compared many at once, their bounds have to lie side by side. By the rows the test of
-// a patch takes ten times as long.
+// Two of its columns, for the test of a patch: where its bytes are compared sixteen at once, their bounds have to lie side by side. By the
+// rows a pass over them takes two and a half times as long.
 pub(crate) static LEAST: [u8; PLACES] = [
     R0.2, R1.2, R2.2, R3.2, R4.2, R5.2, R6.2, R7.2, R8.2, R9.2, R10.2, R11.2, R12.2, R13.2, R14.2,
     R15.2, R16.2, R17.2, R18.2, R19.2, R20.2, R21.2, R22.2, R23.2, R24.2, R25.2, R26.2, R27.2,

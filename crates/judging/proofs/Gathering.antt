@@ -16,7 +16,7 @@ use Rattle.nibbles.proofs.Laws.{length_pack, pack_take, wide_here}
 use Rattle.nibbles.proofs.Passing.{wide_passed, wide_end}
 use Rattle.answers.specs.Table.{outcome}
 use Rattle.judging.specs.code.Content.{StandsAt, sent_in, Gathers}
-use Rattle.frames.proofs.Blocks.{or_left, or_right}
+use Rattle.std.proofs.lemmas.Nat.{le_or_l, le_or_r}
 use Rattle.judging.proofs.Places.{stands_next, stands_byte, LeftAt, left_behind, left_more, left_passed, left_stands, sent_length, sent_byte}
 
 abbrev passed : List ℕ → ℕ → List ℕ
@@ -28,7 +28,7 @@ pub record Underway (s b o₀ o : List ℕ) (at k : ℕ) : Type 0 where
   pub narrow : first_wide s ≡ wide_from (2 * k) (drop (2 * k) s)
 
 pub both_narrow : (x y : ℕ) → bit_or x y < 16 → (x ≤ 15) × (y ≤ 15)
-both_narrow x y h = (omega (arith, or_left x y), omega (arith, or_right x y))
+both_narrow x y h = (omega (arith, le_or_l x y), omega (arith, le_or_r x y))
 
 -- A byte above 15 behind others that are not.
 stopped : (s : List ℕ) (j : ℕ) (after : List ℕ) → first_wide s ≡ wide_from j (drop j s) → j < length s → 15 < get_or s j 0 → Gathers s after (outcome 9 j)

@@ -1,3 +1,4 @@
+pub mod Bytes
 pub mod Data
 pub mod Gathering
 pub mod Places

@@ -5,7 +5,8 @@ use mathlib.Core.Option.{some}
 use Rattle.fields.specs.Fields.{fields, parameter_at}
 use Rattle.fields.specs.code.Lookups.{found_parameter, row_at}
 use Rattle.fields.proofs.Listing.{row, row_read}
-use Rattle.fields.proofs.Places.{parameter_past, no_parameter_at, parameter_here}
+use Rattle.fields.proofs.Places.{no_parameter_at}
+use Rattle.fields.proofs.Rules.{past_unnumbered, parameter_here}
 use Rattle.fields.proofs.parameter_of.Goals.{After-get}
 use Rattle.fields.proofs.parameter_of.Goals as goal
 
@@ -16,7 +17,7 @@ read p = p.get.ensures.lookup.4 (omega arith) (row []) ∙ row_read p.args.place
 pub returns-in_err-parameter : goal.returns-in_err-parameter
 returns-in_err-parameter c =
     let past : 134 ≤ c.args.place.0 = c.in_err-parameter.ensures.lookup.3 in
-    c.from_residual.ensures ∙ sym (ap found_parameter (parameter_past c.args.place.0 past))
+    c.from_residual.ensures ∙ sym (ap found_parameter (past_unnumbered c.args.place.0 past))
 
 pub returns-then-parameter : goal.returns-then-parameter
 returns-then-parameter c =

@@ -7,7 +7,7 @@ use native.Mathlib.Omega.{arith}
 use lib.Bits.{bit_or}
 use lib.ListN.{get_or}
 use borrow.Author.Tests.{ltb-true}
-use Rattle.frames.proofs.Blocks.{or_left, or_right}
+use Rattle.std.proofs.lemmas.Nat.{le_or_l, le_or_r}
 use Rattle.judging.proofs.content.front_quiet.Goals as goal
 
 pub returns-then-body-lt-FRONT : goal.returns-then-body-lt-FRONT
@@ -19,12 +19,12 @@ returns c e =
     let two = bit_or (get_or b 0 0) (get_or b 1 0) in
     let three = bit_or two (get_or b 2 0) in
     let all = ltb-true (bit_or three (get_or b 3 0)) 128 e in
-    let last = or_right three (get_or b 3 0) in
-    let most = or_left three (get_or b 3 0) in
-    let third = or_right two (get_or b 2 0) in
-    let less = or_left two (get_or b 2 0) in
-    let second = or_right (get_or b 0 0) (get_or b 1 0) in
-    let first = or_left (get_or b 0 0) (get_or b 1 0) in
+    let last = le_or_r three (get_or b 3 0) in
+    let most = le_or_l three (get_or b 3 0) in
+    let third = le_or_r two (get_or b 2 0) in
+    let less = le_or_l two (get_or b 2 0) in
+    let second = le_or_r (get_or b 0 0) (get_or b 1 0) in
+    let first = le_or_l (get_or b 0 0) (get_or b 1 0) in
     record {
       four = omega (arith, c.if-body-lt-FRONT.false);
       quiet = λ i h. by_index b i h (omega arith) (omega arith) (omega arith) (omega arith);

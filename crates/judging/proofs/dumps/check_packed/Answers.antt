@@ -31,7 +31,7 @@ pub check_room-requires : goal.check_room-requires
 check_room-requires c = (c.requires.0, rw (room_of (goal.at.check_room-requires c).After-size) c.size.ensures)
 
 pub slice_bounds-check_patch-end : goal.slice_bounds-check_patch-end
-slice_bounds-check_patch-end c = omega (arith, long c)
+slice_bounds-check_patch-end c = omega (arith, long (goal.at.slice_bounds-check_patch-end c).Then-is_plain_patch)
 
 pub bounds-body-272 : goal.bounds-body-272
 bounds-body-272 c = omega (arith, long (goal.at.bounds-body-272 c).Then-is_plain_patch)
