@@ -1,5 +1,5 @@
 -- The maker, the device and that there is an opcode; F7H stands there where the content is too short.
-use Rattle.std.proofs.Common.{◌≡◌, sym, ◌∙◌, ap, arith}
+use Rattle.std.proofs.Common.{◌≡◌, ◌∙◌, arith}
 use Rattle.std.proofs.lemmas.Result.{err_from_is_err_and}
 use Rattle.streams.specs.Bytes.{framed}
 use Rattle.messages.specs.Judge.{byte_at}

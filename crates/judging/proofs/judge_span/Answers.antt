@@ -1,8 +1,4 @@
 -- By how the message ends: cut or interrupted, or judged.
-use Rattle.std.proofs.Common.{sym, ap, ◌∙◌}
-use Rattle.streams.specs.Bytes.{framed}
-use Rattle.messages.specs.Judge.{judge}
-use Rattle.judging.specs.code.Judged.{judged}
 use Rattle.judging.proofs.Spans.{span_taken, span_noise, verdict_cut, verdict_interrupted, verdict_judged}
 use Rattle.judging.proofs.judge_span.Goals as goal
 

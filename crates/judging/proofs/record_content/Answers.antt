@@ -1,18 +1,15 @@
 -- Judged, then the room is tested, then the data are packed: each return is a case of `recorded_as`.
-use Rattle.std.proofs.Common.{◌≡◌, ℕ, ◌≤◌, List, length, take, refl, sym, ap, ◌∙◌, arith, length-take-le}
+use Rattle.std.proofs.Common.{◌≡◌, length, take, refl, ap, ◌∙◌, arith, length-take-le}
 use Rattle.std.proofs.lemmas.Result.{err_from_is_err_and}
 use Rattle.answers.specs.declared.Outcome.{Outcome}
-use Rattle.answers.specs.Table.{done}
 use Rattle.answers.proofs.Refusals.{never_done}
-use Rattle.streams.specs.Bytes.{framed}
 use Rattle.messages.specs.Kinds.{kind_of}
-use Rattle.messages.specs.Judge.{judge}
 use Rattle.messages.specs.code.Sizes.{packed_size}
 use Rattle.messages.proofs.Accepted.{Accepted}
 use Rattle.judging.specs.code.Counted.{content_of}
-use Rattle.judging.specs.code.Judged.{Judged, judged, judged_as}
+use Rattle.judging.specs.code.Judged.{Judged}
 use Rattle.judging.proofs.Records.{accepted_so, record_refused, record_short, record_stored, nothing_packed}
-use Rattle.judging.proofs.record_content.Goals.{In_ok-accepted, After-packed_size-size}
+use Rattle.judging.proofs.record_content.Goals.{In_ok-accepted, After-packed_size-size, Then-size-gt0}
 use Rattle.judging.proofs.record_content.Goals as goal
 
 pub returns-in_err-accepted : goal.returns-in_err-accepted
@@ -37,14 +34,30 @@ returns-then-buffer-size c =
     let n = size (goal.at.returns-then-buffer-size c).After-packed_size-size a in
     record_short (content_of c.args.content) _ c.in_ok-accepted.ensures a c.args.buffer.now _ (omega (arith, n, c.if-buffer-size.true)) refl
 
+-- The part of the buffer that is lent has room for the packed bytes and no more.
+room : (g : Then-size-gt0) → length (take g.packed_size-size.result g.args.buffer.now) ≡ g.packed_size-size.result
+room g = length-take-le g.packed_size-size.result g.args.buffer.now (omega (arith, g.if-buffer-size.false))
+
 pub pack-requires : goal.pack-requires
-pack-requires c = ?
+pack-requires c =
+    let a = its (goal.at.pack-requires c).In_ok-accepted in
+    let n = size (goal.at.pack-requires c).After-packed_size-size a in
+    omega (arith, room (goal.at.pack-requires c).Then-size-gt0, n, a.fits (omega (arith, n, c.if-size-gt0.true)))
 
 pub returns-in_err-pack : goal.returns-in_err-pack
-returns-in_err-pack c = ?
+returns-in_err-pack c =
+    let a = its (goal.at.returns-in_err-pack c).In_ok-accepted in
+    let n = size (goal.at.returns-in_err-pack c).After-packed_size-size a in
+    let told = (rw (room (goal.at.returns-in_err-pack c).Then-size-gt0, n) at c.in_err-pack.ensures).told in
+    absurd (never_done c.in_err-pack.field-0.0 (ap (λ (o : Outcome). o.answer) (rw a.narrow at told)))
 
 pub returns-in_ok-pack : goal.returns-in_ok-pack
-returns-in_ok-pack c = ?
+returns-in_ok-pack c =
+    let a = its (goal.at.returns-in_ok-pack c).In_ok-accepted in
+    let n = size (goal.at.returns-in_ok-pack c).After-packed_size-size a in
+    let filled = (rw (room (goal.at.returns-in_ok-pack c).Then-size-gt0, n) at c.in_ok-pack.ensures).packed a.narrow in
+    record_stored (content_of c.args.content) _ c.in_ok-accepted.ensures a c.args.buffer.now _ (omega (arith, n, c.if-buffer-size.false))
+    (rw (n, filled))
 
 pub returns-else-size-gt0 : goal.returns-else-size-gt0
 returns-else-size-gt0 c =

@@ -1,5 +1,5 @@
 -- The data are packed, then the byte behind them is compared with the sum.
-use Rattle.std.proofs.Common.{◌≡◌, ◌+◌, ◌*◌, length, refl, sym, arith}
+use Rattle.std.proofs.Common.{◌+◌, ◌*◌, length, refl, sym, arith}
 use Rattle.std.proofs.lemmas.Result.{err_from_is_err_and}
 use Rattle.answers.proofs.Refusals.{never_done}
 use Rattle.judging.specs.code.Content.{sent_in, sum_in}

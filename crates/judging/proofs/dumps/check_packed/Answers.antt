@@ -1,6 +1,5 @@
 -- A patch is checked by its own numbers, and other bytes by their count.
 use Rattle.std.proofs.Common.{◌≡◌, ◌≤◌, List, ℕ, length, take, replicate, sym, ◌∙◌, ap, arith, length-take-le}
-use Rattle.messages.specs.declared.kinds.Packed.TheVariants.{Patch as a_patch}
 use Rattle.judging.proofs.dumps.check_packed.Goals.{After-size, Then-is_plain_patch}
 use Rattle.judging.proofs.dumps.check_packed.Goals as goal
 

@@ -1,5 +1,4 @@
 -- `true` stands in the arm of a patch alone.
-use Rattle.std.proofs.Common.{◌≡◌, ℕ, arith}
 use Rattle.judging.proofs.dumps.is_plain_patch.Goals as goal
 
 pub returns-in-Patch : goal.returns-in-Patch

@@ -1,6 +1,6 @@
 -- The length, the byte behind the opcode, then the data: each return is what the rows of the description are answered.
-use Rattle.std.proofs.Common.{◌≡◌, ℕ, ◌+◌, Bool, false, List, [], ◌∷◌, length, get_or, refl, sym, ap, ◌∙◌, arith}
-use Rattle.std.specs.Prelude.{unwrap_or, slice_get}
+use Rattle.std.proofs.Common.{◌≡◌, ℕ, ◌+◌, false, List, [], ◌∷◌, length, get_or, refl, sym, ap, ◌∙◌, arith}
+use Rattle.std.specs.Prelude.{unwrap_or}
 use Rattle.std.proofs.lemmas.Option.{unwrap_or-slice_get}
 use Rattle.std.proofs.lemmas.Result.{err_from_is_err_and}
 use Rattle.answers.specs.declared.Outcome.{Outcome}
@@ -16,7 +16,7 @@ use Rattle.messages.proofs.Filed.{is_sized}
 use Rattle.judging.specs.code.Counted.{content_of}
 use Rattle.judging.specs.code.Judged.{sent_rows_in}
 use Rattle.judging.proofs.Places.{content_within}
-use Rattle.judging.proofs.Verdicts.{Judging, kind_length, kind_stopped, kind_done, content_rows, dump_judged}
+use Rattle.judging.proofs.Verdicts.{kind_length, kind_stopped, kind_done, content_rows, dump_judged}
 use Rattle.judging.proofs.dumps.judge_dump.Goals.{After-wrong_number}
 use Rattle.judging.proofs.dumps.judge_dump.Goals as goal
 

@@ -1,6 +1,4 @@
-use Rattle.std.proofs.Common.{◌≡◌, ℕ, get_or, drop, ap, ◌∙◌, sym}
 use lib.Seq.{get_or-drop}
-use Rattle.std.specs.Prelude.{unwrap_or, slice_get}
 use Rattle.std.proofs.lemmas.Option.{unwrap_or-slice_get}
 use Rattle.judging.specs.code.Counted.{content_of}
 use Rattle.judging.proofs.shorts.first_four.Goals as goal

@@ -2,7 +2,7 @@
 use Rattle.std.proofs.Common.{◌≡◌, ℕ, ◌-◌, ◌+◌, ◌≤◌, List, length, take, drop, length-drop, sym, ◌∙◌, ap, refl, arith, eq-eqb}
 use Rattle.std.proofs.lemmas.Result.{err_from_is_err_and}
 use Rattle.answers.specs.declared.Outcome.{Outcome}
-use Rattle.answers.specs.Table.{Row, four, outcome}
+use Rattle.answers.specs.Table.{Row, outcome}
 use Rattle.answers.specs.Refusals.{outcome_by}
 use Rattle.answers.specs.Effect.{tested}
 use Rattle.answers.proofs.Refusals.{never_done}

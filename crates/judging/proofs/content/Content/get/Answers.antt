@@ -1,9 +1,7 @@
 -- The byte where it stands: at its own index; or among real time, the last one found from the end.
-use Rattle.std.proofs.Common.{◌≡◌, ◌<◌, List, ℕ, length, get_or, sym, ap, ◌∙◌, arith}
-use Rattle.std.specs.Prelude.{Some, slice_get}
+use Rattle.std.proofs.Common.{◌<◌, length, ap, arith}
 use Rattle.std.proofs.lemmas.Option.{slice_get-get_or}
 use Rattle.streams.specs.Bytes.{without_real_time}
-use Rattle.judging.specs.code.Content.{content_by}
 use Rattle.judging.proofs.Places.{stands_byte, content_left}
 use Rattle.judging.proofs.content.Content.get.Goals as goal
 
