@@ -75,7 +75,7 @@ pub fn put_report(text: &mut Text, r: Report)
     ensures { Gains (line r.start r.end r.outcome r.noise) text.old text.new }
 {
     let numbers = [r.start, r.end, r.outcome.answer as usize, r.outcome.detail];
-    put_line(text, numbers, r.outcome.value as isize, r.noise);
+    put_line(text, numbers, isize::from(r.outcome.value), r.noise);
 }
 
 // The line of the next message, or the last line where there is none.

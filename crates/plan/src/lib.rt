@@ -142,7 +142,7 @@ fn put_value(text: &mut Text, p: &[u8], place: usize, behind: u8)
     ensures { Gains (shown_at p.now place behind) text.old text.new }
 {
     text.put_signed(
-        fields::value_at(BytePlace(place as u8), p[place]) as isize,
+        isize::from(fields::value_at(BytePlace(place as u8), p[place])),
         behind,
     );
 }

@@ -28,7 +28,7 @@ fn put_parameter(text: &mut Text, place: u8)
 fn put_value(text: &mut Text, place: u8, b: u8, behind: u8)
     ensures { Gains (signed (value_at place b) behind) text.old text.new }
 {
-    text.put_signed(fields::value_at(BytePlace(place), b) as isize, behind);
+    text.put_signed(isize::from(fields::value_at(BytePlace(place), b)), behind);
 }
 
 // A place's line.

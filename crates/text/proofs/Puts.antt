@@ -1,14 +1,14 @@
--- Text put into a room, one part behind the other: nothing; a byte; then more, which goes on from where the last part ended, whether it fits
--- whole, in part or not at all. Each goes by the laws of `take`, `drop` and `++`.
+-- Text put into a room, one part behind the other: nothing; then more, which goes on from where the last part ended, whether it fits whole, in
+-- part or not at all. Each goes by the laws of `take`, `drop` and `++`.
 use mathlib.Core.Path.{◌≡◌, refl, sym, ap, ◌∙◌}
 use mathlib.Core.List.{List, [], ◌∷◌, ◌++◌, append_assoc, append-nil}
-use Prim.Native.Nat.{ℕ, zero, suc, ◌+◌, ◌-◌, ◌<◌, ◌≤◌}
+use Prim.Native.Nat.{ℕ, zero, suc, ◌+◌, ◌-◌, ◌≤◌}
 use native.Mathlib.Decide.{dec_le}
 use native.Mathlib.Nat.{add-zero}
-use native.Mathlib.Numerals.{add-one, unary_clauses}
+use native.Mathlib.Numerals.{unary_clauses}
 use native.Mathlib.Omega.{arith}
-use lib.ListN.{length, take, drop, set, length-append, length-drop, length-take, take-append-drop}
-use lib.Seq.{length-take-le, take_all, take-nil, take_at, drop_at, drop-drop, set_split}
+use lib.ListN.{length, take, drop, length-append, length-drop, length-take, take-append-drop}
+use lib.Seq.{length-take-le, take_all, take-nil, take_at, drop_at, drop-drop}
 use Rattle.text.specs.Text.{fitting, IsPrefixLen, Puts, Gains}
 use Rattle.text.specs.declared.Text.{Text}
 
@@ -26,18 +26,6 @@ pub puts_none : (old : List ℕ) (at : ℕ) → Puts [] old at old at
 puts_none old at =
     let none : fitting [] old at ≡ [] = take-nil (length old - at) in
     record { ends = rw none (sym (add-zero at)); text = rw none (sym (take-append-drop at old)) }
-
--- Where there is no room, nothing is put.
-pub puts_full : (w old : List ℕ) (at : ℕ) → length old ≤ at → Puts w old at old at
-puts_full w old at h =
-    let none : length old - at ≡ 0 = omega arith in
-    record { ends = rw none (sym (add-zero at)); text = rw none (sym (take-append-drop at old)) }
-
--- A byte, where there is room.
-pub puts_byte : (b : ℕ) (old : List ℕ) (at : ℕ) → at < length old → Puts (b ∷ []) old at (set old at b) (at + 1)
-puts_byte b old at h =
-    let one : fitting (b ∷ []) old at ≡ b ∷ [] = take_all (length old - at) (b ∷ []) (omega arith) in
-    record { ends = rw one; text = rw (one, add-one at) (set_split old at b h) }
 
 -- What stands in a room behind a call: up to the end what stood there before and what was put, then what stood there before.
 pub record After (w old : List ℕ) (at : ℕ) (mid : List ℕ) (e : ℕ) : Type 0 where

@@ -1,4 +1,5 @@
-// Input put into lent room. No buffer stands in between, so that no more is read than there is room for.
+// Input put into lent room. No buffer stands in between, so that no more is read than there is room for. std's `read_exact` refuses an input that
+// ends early, and its `read_to_end` wants the heap.
 ghost use Rattle.std.specs.Prelude.{ℕ, ◌<◌, ◌≤◌, length, take, IfOk, OnErr};
 ghost use Rattle.std.specs.Io.KnownBytes.{Consumes, IsAtEnd};
 ghost use Rattle.text.specs.Text.{IsPrefixLen};
