@@ -1,5 +1,5 @@
 -- Bytes that are the same are equal lists, and back; so `==` on slices tells it.
-use Rattle.std.proofs.Common.{◌≡◌, refl, ap, Bool, true, false, List, ℕ, length, nat_eq, Decides}
+use Rattle.std.proofs.Common.{◌≡◌, refl, true, List, ℕ, nat_eq, Decides}
 use Rattle.std.specs.Cmp.Lexicographic.{pointwise}
 use Rattle.std.proofs.lemmas.Bool.Decides.{same_from_decides}
 use Rattle.std.proofs.lemmas.Slice.Eq.{bytes_eq-Decides, compares_Decides}
@@ -19,11 +19,3 @@ same_equal a b = (same_decides a b).0
 
 pub same_pointwise : (a b : List ℕ) → pointwise nat_eq a b ≡ same_bytes a b
 same_pointwise a b = same_from_decides _ _ (bytes_eq-Decides a b) (same_decides a b)
-
--- As many bytes are needed.
-pub same_longer : (a b : List ℕ) → (length a ≡ length b → ⊥) → same_bytes a b ≡ false
-same_longer a b n = go (same_bytes a b) refl
-  where
-    go : (t : Bool) → same_bytes a b ≡ t → t ≡ false
-    go true q = absurd (n (ap length (same_equal a b q)))
-    go false q = refl
