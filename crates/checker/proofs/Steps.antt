@@ -27,7 +27,8 @@ use Rattle.edit_lists.proofs.Bytes.{message_some, edits_none, edits_first, edits
 use Rattle.checker.specs.code.Steps.{behind, left_by, Follows, turned_by, last_patch, Turns}
 
 -- What following an edit gives, by what storing it told.
-module _ (o : Option Edit) (e : Edit) (p s : List ℕ) (told : Bool) (after : List ℕ) (found : o ≡ some e) (gave : Stored (applied e p) told after) where
+module _ (o : Option Edit) (e : Edit) (p s : List ℕ) (told : Bool) (after : List ℕ) (found : o ≡ some e)
+    (gave : Stored (applied e p) told after) where
   pub follows_stored : (rest : Bor (List ℕ)) → rest.now ≡ drop (length (message_for e)) s → (r : Maybe (Bor (List ℕ)))
       → r ≡ then_some told rest → Follows o p s r after
   follows_stored rest l r t = rw (found, t) (record { rest = by told gave.told; lent = gave.lent })
@@ -101,7 +102,8 @@ last_next s p after rest h f = go (first_edit s) refl f.rest f.lent
     go none q t k = cc
     go (some e) q t k = by (eqb (applied e p).result.answer 0) refl t
       where
-        by : (v : Bool) → eqb (applied e p).result.answer 0 ≡ v → Some rest.now ≡ cond v (Some (drop (length (message_for e)) s)) None → Onward s p rest.now after
+        by : (v : Bool) → eqb (applied e p).result.answer 0 ≡ v → Some rest.now ≡ cond v (Some (drop (length (message_for e)) s)) None
+            → Onward s p rest.now after
         by false w t = cc
         by true w t =
             let same : rest.now ≡ drop (length (message_for e)) s = cc in

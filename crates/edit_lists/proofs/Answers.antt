@@ -16,7 +16,8 @@ use Rattle.answers.specs.Table.{Row, row, number_of, says, Verdict, done, refuse
 use Rattle.answers.specs.Effect.{Effect, at_start}
 use Rattle.answers.specs.promises.Decides.{Silent}
 use Rattle.answers.proofs.Lists.{all_append}
-use Rattle.answers.proofs.Rows.{Refusals, both_refusals, passed_over, silent_parts, row_silent, answered_silent, tested_passed, stopped, first_number, is_first}
+use Rattle.answers.proofs.Rows.{Refusals, both_refusals, passed_over, silent_parts, row_silent}
+use Rattle.answers.proofs.Rows.{answered_silent, tested_passed, stopped, first_number, is_first}
 use Rattle.answers.proofs.Effects.{written_done, written_fits, written_decides}
 use Rattle.patch.specs.Patch.{patch_rows}
 use Rattle.pairs.specs.Pairs.{same_bytes, name_of, pair_rows}

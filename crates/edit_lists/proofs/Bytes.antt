@@ -5,10 +5,10 @@ use mathlib.Core.List.{List, [], ◌∷◌, ◌++◌, append_assoc}
 use mathlib.Core.Option.{Option, none, some, some-injective}
 use Prim.Native.Nat.{ℕ, zero, suc, ◌≤◌, ◌<◌}
 use native.Mathlib.Omega.{arith}
-use lib.ListN.{length, take, drop, length-append, length-take, take-append-drop}
+use lib.ListN.{length, take, drop, length-append, take-append-drop}
 use lib.Seq.{drop_at, take_at}
 use Rattle.pairs.specs.Pairs.{same_bytes}
-use Rattle.pairs.proofs.Equal.{same_refl, same_equal, same_longer}
+use Rattle.pairs.proofs.Equal.{same_refl, same_equal}
 use Rattle.edit_lists.specs.Lists.{Edit, remote, matrix, message_for, list_bytes, turned, Accepted}
 use Rattle.edit_lists.specs.Check.{begins, as_remote, as_matrix, first_edit, before, and_behind, or_end, edits_in, ends_in, turn_into, accepts}
 use Rattle.edit_lists.specs.promises.Shortest.{Listed}
@@ -20,10 +20,6 @@ begins_there m s e =
 
 begins_back : (m s : List ℕ) → begins m (m ++ s) ≡ true
 begins_back m s = rw (take_at m s (length m) refl) (same_refl m)
-
--- Fewer bytes do not begin with it.
-pub begins_short : (m s : List ℕ) → length s < length m → begins m s ≡ false
-begins_short m s h = same_longer (take (length m) s) m (λ e. omega (arith, length-take (length m) s))
 
 pub begins_long : (m s : List ℕ) → begins m s ≡ true → length m ≤ length s
 begins_long m s e = omega (arith, ap length (begins_there m s e), length-append m (drop (length m) s))
@@ -40,8 +36,12 @@ first_bytes s e h = go (begins (message_for (as_remote s)) s) (begins (message_f
   where
     go : (t u : Bool) → begins (message_for (as_remote s)) s ≡ t → begins (message_for (as_matrix s)) s ≡ u
         → cond t (some (as_remote s)) (cond u (some (as_matrix s)) none) ≡ some e → s ≡ message_for e ++ drop (length (message_for e)) s
-    go true u q r h = subst (λ (x : Edit). s ≡ message_for x ++ drop (length (message_for x)) s) (some-injective (as_remote s) e h) (begins_there (message_for (as_remote s)) s q)
-    go false true q r h = subst (λ (x : Edit). s ≡ message_for x ++ drop (length (message_for x)) s) (some-injective (as_matrix s) e h) (begins_there (message_for (as_matrix s)) s r)
+    go true u q r h =
+        subst (λ (x : Edit). s ≡ message_for x ++ drop (length (message_for x)) s) (some-injective (as_remote s) e h)
+        (begins_there (message_for (as_remote s)) s q)
+    go false true q r h =
+        subst (λ (x : Edit). s ≡ message_for x ++ drop (length (message_for x)) s) (some-injective (as_matrix s) e h)
+        (begins_there (message_for (as_matrix s)) s r)
     go false false q r h = let z : ◌≡◌ {A = ℕ} 0 1 = cc in absurd (omega arith)
 
 -- A message has bytes.
@@ -78,7 +78,8 @@ before_some e none es h = let z : ◌≡◌ {A = ℕ} 0 1 = cc in absurd (omega 
 before_some e (some xs) es h = (xs, refl, some-injective (e ∷ xs) es h)
 
 -- Bytes that have edits are theirs.
-end_bytes : (s : List ℕ) (more : Option (List Edit)) (es : List Edit) → or_end s more ≡ some es → (more ≡ some es → list_bytes es ≡ s) → list_bytes es ≡ s
+end_bytes : (s : List ℕ) (more : Option (List Edit)) (es : List Edit) → or_end s more ≡ some es → (more ≡ some es → list_bytes es ≡ s)
+    → list_bytes es ≡ s
 unfolding list_bytes
 end_bytes [] more es h rest = ap list_bytes (sym (some-injective [] es h))
 end_bytes (x ∷ s) more es h rest = rest h

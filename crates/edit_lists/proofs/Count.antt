@@ -112,7 +112,8 @@ tally_same f g zero k h = refl
 tally_same f g (suc n) k h =
     rw (h k (omega arith) (omega arith)) (ap (λ (m : ℕ). cond (g k) 1 0 + m) (tally_same f g n (suc k) (λ i l u. h i (omega arith) (omega arith))))
 
-one_byte : (a b : List ℕ) (k : ℕ) → k < length a → k < length b → same_bytes (take 1 (drop k a)) (take 1 (drop k b)) ≡ eqb (get_or a k 0) (get_or b k 0)
+pub one_byte : (a b : List ℕ) (k : ℕ) → k < length a → k < length b
+    → same_bytes (take 1 (drop k a)) (take 1 (drop k b)) ≡ eqb (get_or a k 0) (get_or b k 0)
 unfolding same_bytes
 one_byte a b k ha hb = rw (drop-cons a k 0 ha, drop-cons b k 0 hb, and-true)
 
@@ -130,7 +131,8 @@ module _ (a b : List ℕ) (g : Good a) (f : Good b) where
 
   pub parts_counted : length (differing parts a b) ≡ count_below 100 (parameter_differs a b) + count_below 10 (bus_differs a b)
   parts_counted =
-      let fields_so = sym (tally_same (byte a b) (part a b) 96 8 field_part) ∙ ap (tally (byte a b)) (sym in_order) ∙ sort_tally (byte a b) (places 100)
+      let fields_so =
+          sym (tally_same (byte a b) (part a b) 96 8 field_part) ∙ ap (tally (byte a b)) (sym in_order) ∙ sort_tally (byte a b) (places 100)
       ∙ sym (by_place a b 100) in
       let buses_so = sort_tally (part a b) (buses_below 10) ∙ sym (bus_part 10) in
       let all = differ_tally a b parts ∙ ap (tally (part a b)) all_parts ∙ tally_append (part a b) (up_from 96 8) (sort (buses_below 10)) in

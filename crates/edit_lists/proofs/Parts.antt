@@ -78,7 +78,8 @@ part_byte k i p l h =
     get_or-take (width_of k) (drop k p) (i - k) 0 (omega arith) ∙ get_or-drop k p (i - k) 0 ∙ ap (λ (j : ℕ). get_or p j 0) same
 
 -- Patches of one length with the same bytes there have the same part.
-pub part_by : (k : ℕ) (p q : List ℕ) → length p ≡ length q → ((i : ℕ) → k ≤ i → i < k + width_of k → get_or p i 0 ≡ get_or q i 0) → bytes_at k p ≡ bytes_at k q
+pub part_by : (k : ℕ) (p q : List ℕ) → length p ≡ length q → ((i : ℕ) → k ≤ i → i < k + width_of k → get_or p i 0 ≡ get_or q i 0)
+    → bytes_at k p ≡ bytes_at k q
 part_by k p q l h =
     ext_get_or 0 (bytes_at k p) (bytes_at k q) (simp (length-take, length-drop, l))
     (λ j u. get_or-take (width_of k) (drop k p) j 0 (short j u) ∙ get_or-drop k p j 0 ∙ h (k + j) (omega arith) (let s = short j u in omega arith)

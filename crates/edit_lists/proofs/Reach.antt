@@ -230,7 +230,8 @@ small : (b : ℕ) → sent b ≤ 127
 small b = omega arith
 
 both_silent : (rows : List Row) (p : List ℕ) → Silent rows → Good p → first (rows ++ patch_rows p) (done 0 [] []) ≡ done 0 [] []
-both_silent rows p s g = first_passed (rows ++ patch_rows p) (done 0 [] []) (all_append (λ (r : Row). says r ≡ none) rows (patch_rows p) s (good_silent p g))
+both_silent rows p s g =
+    first_passed (rows ++ patch_rows p) (done 0 [] []) (all_append (λ (r : Row). says r ≡ none) rows (patch_rows p) s (good_silent p g))
 
 value_silent : (k n v : ℕ) → v ≤ 127 → in_range k (stored_for n v) ≡ true → Silent (value_rows k n v)
 unfolding value_rows
@@ -264,7 +265,8 @@ field_gets k p b l u g f =
       there = λ i h j. let here : i ≡ d.place = omega arith in rw here (d.own ∙ stored ∙ ap (λ (m : ℕ). get_or b m 0) (sym same));
     }
 
-bus_silent : (b s a d : ℕ) → b ≤ 9 → a ≤ 127 → out_from fields (source_at b) (s ∷ extended a ∷ d ∷ []) ≡ none → half_used s d ≡ false → Silent (bus_rows b s a d)
+bus_silent : (b s a d : ℕ) → b ≤ 9 → a ≤ 127 → out_from fields (source_at b) (s ∷ extended a ∷ d ∷ []) ≡ none → half_used s d ≡ false
+    → Silent (bus_rows b s a d)
 unfolding bus_rows
 bus_silent b s a d h l o w = (rw (le-ltb 9 b h, le-ltb 127 a l), (rw o, (rw w, tt)))
 
@@ -293,8 +295,10 @@ bus_rows_hold c b h f =
     let d = get_or b (destination_at c) 0 in
     let k₁ : suc (source_at c) ≡ amount_at c = omega arith in
     let k₂ : suc (suc (source_at c)) ≡ destination_at c = omega arith in
-    let o₂ = one_more_in fields (suc (suc (source_at c))) d [] (rw k₂ (good_range b f (destination_at c) (omega arith))) (none_out fields (suc (suc (suc (source_at c))))) in
-    let o₁ = one_more_in fields (suc (source_at c)) (extended a) (d ∷ []) (rw (k₁, amount_stored c b h f) (good_range b f (amount_at c) (omega arith))) o₂ in
+    let none_behind = none_out fields (suc (suc (suc (source_at c)))) in
+    let o₂ = one_more_in fields (suc (suc (source_at c))) d [] (rw k₂ (good_range b f (destination_at c) (omega arith))) none_behind in
+    let o₁ =
+        one_more_in fields (suc (source_at c)) (extended a) (d ∷ []) (rw (k₁, amount_stored c b h f) (good_range b f (amount_at c) (omega arith))) o₂ in
     let o₀ = one_more_in fields (source_at c) s (extended a ∷ d ∷ []) (good_range b f (source_at c) (omega arith)) o₁ in
     bus_silent c s a d (omega arith) (small (get_or b (amount_at c) 0)) o₀ (good_whole b f c h)
 

@@ -1,8 +1,7 @@
 -- Bytes that are the same are equal lists, and back; so `==` on slices tells it.
-use Rattle.std.proofs.Common.{◌≡◌, refl, ap, true, false, List, ℕ, length, nat_eq, Decides}
+use Rattle.std.proofs.Common.{◌≡◌, refl, true, List, ℕ, nat_eq, Decides}
 use Rattle.std.specs.Cmp.Lexicographic.{pointwise}
-use borrow.Author.Tests.{not-true}
-use Rattle.std.proofs.lemmas.Bool.Decides.{Decides-not, same_from_decides}
+use Rattle.std.proofs.lemmas.Bool.Decides.{same_from_decides}
 use Rattle.std.proofs.lemmas.Slice.Eq.{bytes_eq-Decides, compares_Decides}
 use Rattle.pairs.specs.Pairs.{same_bytes}
 
@@ -20,7 +19,3 @@ same_equal a b = (same_decides a b).0
 
 pub same_pointwise : (a b : List ℕ) → pointwise nat_eq a b ≡ same_bytes a b
 same_pointwise a b = same_from_decides _ _ (bytes_eq-Decides a b) (same_decides a b)
-
--- As many bytes are needed.
-pub same_longer : (a b : List ℕ) → (length a ≡ length b → ⊥) → same_bytes a b ≡ false
-same_longer a b n = not-true _ ((Decides-not (same_bytes a b) (same_decides a b)).1 (λ e. n (ap length e)))

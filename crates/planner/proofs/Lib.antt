@@ -1,5 +1,4 @@
 pub mod Edits
 pub mod Left
 pub mod Message
-pub mod Same
 pub mod Writing

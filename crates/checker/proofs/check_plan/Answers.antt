@@ -13,7 +13,8 @@ use Rattle.pairs.specs.Pairs.{same_bytes, pair_rows}
 use Rattle.pairs.proofs.Pair.{pair_refusals, silent_pair}
 use Rattle.edit_lists.specs.Check.{checking}
 use Rattle.checker.proofs.Steps.{decided, pair_stops, list_decides}
-use Rattle.checker.proofs.check_plan.Goals.{After-turn, Else-pair-ne-DONE, After-unwrap-p, then-not-turn-via-then-not-turn, then-not-turn-via-else-not-turn+then-not-same}
+use Rattle.checker.proofs.check_plan.Goals.{After-turn, Else-pair-ne-DONE, After-unwrap-p}
+use Rattle.checker.proofs.check_plan.Goals.{then-not-turn-via-then-not-turn, then-not-turn-via-else-not-turn+then-not-same}
 use Rattle.checker.proofs.check_plan.Goals as goal
 
 pub returns-then-pair-ne-DONE : goal.returns-then-pair-ne-DONE

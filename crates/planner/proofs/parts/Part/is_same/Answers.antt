@@ -1,12 +1,13 @@
-use Rattle.std.proofs.Common.{◌≡◌, ◌+◌, ◌-◌, ◌∙◌, arith}
+use Rattle.std.proofs.Common.{◌≡◌, ◌+◌, ◌-◌, ◌∙◌, sym, arith}
 use Rattle.pairs.proofs.Equal.{same_pointwise}
-use Rattle.edit_lists.proofs.Parts.{width_bus}
-use Rattle.planner.proofs.Same.{one_byte}
+use Rattle.edit_lists.proofs.Parts.{width_field, width_bus}
+use Rattle.edit_lists.proofs.Count.{one_byte}
 use Rattle.planner.proofs.parts.Part.is_same.Goals as goal
 
 pub returns-then-k-lt-SOURCE_AT : goal.returns-then-k-lt-SOURCE_AT
 returns-then-k-lt-SOURCE_AT c =
-    one_byte c.args.self.place c.args.a.now c.args.b.now (omega arith) (omega arith) c.if-k-lt-SOURCE_AT.true
+    let k = c.args.self.place in
+    rw (width_field k c.if-k-lt-SOURCE_AT.true) (sym (one_byte c.args.a.now c.args.b.now k (omega arith) (omega arith)))
 
 pub returns-else-k-lt-SOURCE_AT : goal.returns-else-k-lt-SOURCE_AT
 returns-else-k-lt-SOURCE_AT c =
