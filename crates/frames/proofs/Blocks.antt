@@ -1,4 +1,5 @@
--- Blocks of bytes one after the other: what each byte of the first blocks has, those of one more block have too.
+-- Blocks of bytes one after the other: what each byte of some blocks and of one more has, all of theirs have; and what that leaves to
+-- count of a message's body.
 use Rattle.std.proofs.Common.{◌≡◌, ℕ, zero, suc, ◌+◌, ◌*◌, ◌/◌, ◌<◌, ◌≤◌, List, [], ◌∷◌, length, get_or, take, drop, refl, ap, ◌∙◌, add-zero, cond, eqb, drop_of_length-le, arith, lt_of_not-le, get_or-take, length-take, length-drop, drop-drop, take-add}
 use native.Mathlib.Decide.{dec_le}
 use Rattle.std.specs.List.{All}
@@ -32,7 +33,7 @@ block_is : (n k i : ℕ) (s : List ℕ) (blocks : List (List ℕ)) → blocks �
 block_is n k i s blocks e h =
     ap (λ (l : List (List ℕ)). get_or l i []) e ∙ block_at n k i s (omega (arith, ap length e, length-first_chunks n k s))
 
--- Of one block more.
+-- What holds of each byte of the first blocks and of one more.
 pub block_more : (P : ℕ → Type 0) (n k i : ℕ) (s : List ℕ) (blocks : List (List ℕ)) → blocks ≡ first_chunks n k s → i < length blocks
     → All P (take (n * i) s) → All P (get_or blocks i []) → All P (take (n * (i + 1)) s)
 block_more P n k i s blocks e h before here =
@@ -86,9 +87,9 @@ onward_block n i s blocks m k e h o goes heard =
     let b = block_is n (length s / n) i s blocks e h in
     let next : n * i + n ≡ n * (i + 1) = omega arith in
     let within : i + 1 ≤ length s / n = omega (arith, ap length e, length-first_chunks n (length s / n) s) in
-    let room : n ≤ length (drop (n * i) s) =
-    omega (arith, mul-le-mul_left n within, mul-div-le (length s) n, length-drop (n * i) s) in
-    rw (← next, heard, b) (onward_then s (n * i) n m (real_time_in (take n (drop (n * i) s))) o (onward_past (drop (n * i) s) n room (rw b at goes)))
+    let t = drop (n * i) s in
+    let room : n ≤ length t = omega (arith, mul-le-mul_left n within, mul-div-le (length s) n, length-drop (n * i) s) in
+    rw (← next, heard, b) (onward_then s (n * i) n m (real_time_in (take n t)) o (onward_past t n room (rw b at goes)))
 
 -- One byte more, a data byte or real time; and the span where nothing is left of the body.
 module _ (s : List ℕ) where
@@ -131,7 +132,7 @@ module _ (s : List ℕ) where
       let whole : i ≡ length s = omega (arith, o.within) in
       rw whole at (left i n Cut o (body_end s i h) (rw (drop_of_length-le s h)))
 
--- Of what all bytes have but one.
+-- What holds of the first bytes and one more holds of the first.
 pub all_before : (P : ℕ → Type 0) (s : List ℕ) (i : ℕ) → All P (take (i + 1) s) → All P (take i s)
 all_before P s i a =
     let fewer : i ≤ i + 1 = omega arith in rw take-take at (All-take P i (take (i + 1) s) a)
@@ -153,5 +154,7 @@ pub noise_next : (s : List ℕ) (i : ℕ) → i < length s → get_or s i 0 < 25
     → real_time_in (take (i + 1) s) ≡ real_time_in (take i s) + get_or s i 0 / 128
 noise_next s i h fits a =
     let last : i < i + 1 = omega arith in
-    let here : Goes (get_or s i 0) = rw get_or-take at (All-get_or Goes (take (i + 1) s) i 0 (simp length-take (omega arith)) a) in
-    ap real_time_in (take_more s i 0 h) ∙ noise_append (take i s) (get_or s i 0 ∷ []) ∙ ap (λ (n : ℕ). real_time_in (take i s) + n) (quotient (get_or s i 0) fits here)
+    let b = get_or s i 0 in
+    let here : Goes b = rw get_or-take at (All-get_or Goes (take (i + 1) s) i 0 (simp length-take (omega arith)) a) in
+    ap real_time_in (take_more s i 0 h) ∙ noise_append (take i s) (b ∷ [])
+    ∙ ap (λ (n : ℕ). real_time_in (take i s) + n) (quotient b fits here)

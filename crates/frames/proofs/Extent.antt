@@ -4,6 +4,7 @@ use Rattle.std.proofs.Common.{◌≡◌, ◌≢◌, ℕ, zero, suc, ◌+◌, ◌
 use borrow.Author.Tests.{eqb-true, eqb-false}
 use Rattle.std.specs.List.{All, prefix_len}
 use Rattle.std.proofs.lemmas.List.Elements.{All-head, All-tail}
+use Rattle.std.proofs.lemmas.List.Sums.{prefix_len-le-length}
 use Rattle.streams.specs.Bytes.{body}
 use Rattle.frames.specs.declared.Ending.TheVariants.{Whole, Interrupted, Cut}
 use Rattle.frames.specs.code.Extent.{ahead, start_at, ending_of}
@@ -55,13 +56,7 @@ ahead_past (b ∷ s) (suc n) h a =
 
 -- No more bytes stand before the first F0H than there are.
 pub ahead_within : (s : List ℕ) → ahead s ≤ length s
-unfolding ahead
-ahead_within [] = omega arith
-ahead_within (b ∷ s) = by_test (eqb b 0xF0) (ahead_within s)
-  where
-    by_test : (t : Bool) → ahead s ≤ length s → cond t 0 (suc (ahead s)) ≤ suc (length s)
-    by_test true h = omega arith
-    by_test false h = omega arith
+ahead_within s = omega (arith, ahead_is s, prefix_len-le-length (λ b. not (eqb b 0xF0)) s)
 
 -- Past the end no byte stands.
 pub start_past : (s : List ℕ) (p : ℕ) → length s ≤ p → start_at s p ≡ p

@@ -39,8 +39,8 @@ fn ended_by(b: u8) -> Ending
     }
 }
 
-// Whether each byte of a block passes: without a branch, so that they are seen at once. `all` would stop at the first that does not; joined
-// by `|`, that none fails, they are tested in twice the time.
+// Whether each byte of a block passes: without a branch, so that they are seen at once, where `all` would stop at the first that does not.
+// By `|`, whether one fails, data bytes are tested in twice the time.
 fn all_pass<F: Fn(u8) -> bool>(block: &[u8], passes: F) -> bool
     requires { F.IsAlwaysCallable passes }
     ensures { result ≡ true → All (λ b. F.post passes b true) block.now }
@@ -142,8 +142,8 @@ fn skip_noisy(rest: &[u8]) -> Passed
     }
 }
 
-// How far a message runs, from the bytes behind its F0H. The last bytes are read by their place: over a part of the slice messages of a byte
-// take a tenth longer.
+// How far a message runs, from the bytes behind its F0H. The last bytes are read by their place: by `iter` over what is left of the slice,
+// messages of one byte take a tenth longer.
 pub fn find_end(rest: &[u8]) -> Span
     ensures { result ≡ span_of rest.now }
 {
@@ -170,7 +170,8 @@ pub fn find_end(rest: &[u8]) -> Span
     }
 }
 
-// How many bytes stand before the first that is not real time.
+// How many bytes stand before the first that is not real time. One function for both counts, over a test, could say no more than what its
+// calls returned.
 fn count_real_time(rest: &[u8]) -> usize
     ensures { result ≡ prefix_len (λ b. nat_lt 0xF7 b) rest.now }
 {

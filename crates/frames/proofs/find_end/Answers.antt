@@ -27,7 +27,8 @@ loop-i-preserved c =
 
 pub returns-in_default : goal.returns-in_default
 returns-in_default c =
-    span_ends c.args.rest.now c.loop-i.i c.loop-i.noise c.ended_by.result c.loop-i.invariant c.loop-i-test.true (omega arith) (omega arith) c.ended_by.ensures
+    span_ends c.args.rest.now c.loop-i.i c.loop-i.noise c.ended_by.result c.loop-i.invariant c.loop-i-test.true
+    (omega arith) (omega arith) c.ended_by.ensures
 
 pub returns : goal.returns
 returns c = span_cut c.args.rest.now c.loop-i.i c.loop-i.noise c.loop-i.invariant c.loop-i-test.false

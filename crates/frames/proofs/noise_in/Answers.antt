@@ -12,4 +12,5 @@ loop-b-preserved c =
     let s = c.args.block.now in
     let i = c.loop-b.b-index in
     let fits : get_or s i 0 < 256 = search rules in
-    (omega (arith, c.loop-b.invariant.0), λ a. omega (arith, c.loop-b.invariant.1 (all_before Goes s i a), noise_next s i (omega arith) fits a))
+    let before = c.loop-b.invariant in
+    (omega (arith, before.0), λ a. omega (arith, before.1 (all_before Goes s i a), noise_next s i (omega arith) fits a))
