@@ -167,7 +167,8 @@ gone (n ∷ ns) c s o h =
     let place = g.place in
     let i = gone ns (feeding c xs).state (drop (feeding c xs).fed.taken s) g.on (omega arith) in
     let split : ahead c s ≡ given (feeding c xs) ++ ahead (feeding c xs).state (drop (feeding c xs).fed.taken s) =
-    ap (ahead c) (sym (take-append-drop n s)) ∙ g.onward (drop n s) ∙ ap (λ (l : List ℕ). given (feeding c xs) ++ ahead (feeding c xs).state l) (again n k s few ∙ sym rest) in
+    ap (ahead c) (sym (take-append-drop n s)) ∙ g.onward (drop n s)
+    ∙ ap (λ (l : List ℕ). given (feeding c xs) ++ ahead (feeding c xs).state l) (again n k s few ∙ sym rest) in
     record {
       gave = split ∙ ap (λ (l : List Entry). given (feeding c xs) ++ l) i.gave ∙ sym (append_assoc (given (feeding c xs)) _ _);
       on = i.on;
@@ -264,17 +265,23 @@ every_cut = record { as_the_file = as_the_file; gets_on = on }
   where
     as_the_file : (s : List ℕ) → length s ≤ limit → AsTheFile s
     as_the_file s h = record {
-      every_cut = λ ns e. sym (all ns ∙ ap (λ (l : List Entry). (run ns fresh_record s).entries ++ l) (ap (ahead (run ns fresh_record s).state) e ∙ sym (last_given (run ns fresh_record s).state (far ns).on)));
-      so_far = λ ns. (ahead (run ns fresh_record s).state (run ns fresh_record s).left, all ns);
+      every_cut = λ ns e. sym (all ns ∙ ap (λ (l : List Entry). (its_run ns).entries ++ l) (last ns e));
+      so_far = λ ns. (ahead (its_run ns).state (its_run ns).left, all ns);
       gets_there = λ ns e. enough ns fresh_record s refl (omega arith) (omega arith);
       as_read = all_weaken (λ r. walk judge s r.start ≡ some r) (ReadSo s) (read_so s) (stream.reports judge s) (reread judge s);
     }
       where
-        far : (ns : List ℕ) → Gone fresh_record s (run ns fresh_record s)
+        its_run : List ℕ → Run
+        its_run ns = run ns fresh_record s
+
+        far : (ns : List ℕ) → Gone fresh_record s (its_run ns)
         far ns = gone ns fresh_record s refl (omega arith)
 
-        all : (ns : List ℕ) → map entry_of (stream.reports judge s) ≡ (run ns fresh_record s).entries ++ ahead (run ns fresh_record s).state (run ns fresh_record s).left
+        all : (ns : List ℕ) → map entry_of (stream.reports judge s) ≡ (its_run ns).entries ++ ahead (its_run ns).state (its_run ns).left
         all ns = ap (map entry_of) (reports_scan judge s) ∙ (far ns).gave
+
+        last : (ns : List ℕ) → (its_run ns).left ≡ [] → ahead (its_run ns).state (its_run ns).left ≡ given (ending (its_run ns).state)
+        last ns e = ap (ahead (its_run ns).state) e ∙ sym (last_given (its_run ns).state (far ns).on)
 
     on : (c : Cable) (s : List ℕ) → c.over ≡ false → c.taken + length s ≤ limit → 0 < length s → (feeding c s).fed.taken ≡ 0
         → ((feeding c s).fed.ended ≡ true) × ((t : List ℕ) → c.taken + length t ≤ limit → 0 < length t → 0 < (feeding (feeding c s).state t).fed.taken)
@@ -291,12 +298,15 @@ every_cut = record { as_the_file = as_the_file; gets_on = on }
         by_stop (at_all q l) = absurd (omega (arith, l, none))
         by_stop (at_an_end r q e st) =
             let g = going c s o h in
-            let out : held_by (feeding c s).state ≡ outside = ap (λ (x : Step). held_by x.state) as_goes ∙ ap (λ (x : State). held_by (record_of (laid_over c) (c.taken + (its c s).count) x (packed_of (its c s).ended))) st in (
+            let out : held_by (feeding c s).state ≡ outside =
+            ap (λ (x : Step). held_by x.state) as_goes
+            ∙ ap (λ (x : State). held_by (record_of (laid_over c) (c.taken + (its c s).count) x (packed_of (its c s).ended))) st in (
               ap (λ (x : Step). x.fed.ended) as_goes ∙ ap (λ (x : Option stream.Report). (told (its c s).count x).ended) q,
               λ t k m.
                   let within : (feeding c s).state.taken + length t ≤ limit = omega (arith, g.place, none) in
                   let took = (going (feeding c s).state t g.on within).took in
                   let some_taken = feed.taken_on judge t (feeding c s).state.taken m in
-                  let same : (its (feeding c s).state t).count ≡ (taken judge (feeding c s).state.taken outside t).count = ap (λ (x : State). (taken judge (feeding c s).state.taken x t).count) out in
+                  let same : (its (feeding c s).state t).count ≡ (taken judge (feeding c s).state.taken outside t).count =
+                  ap (λ (x : State). (taken judge (feeding c s).state.taken x t).count) out in
                   omega arith,
             )

@@ -6,8 +6,8 @@ use Prim.Native.Nat.{ℕ, min, ◌+◌, ◌-◌, ◌≤◌, ◌<◌}
 use native.Mathlib.Nat.{min-le_right}
 use native.Mathlib.Omega.{arith}
 use lib.Dec.{leb}
-use lib.ListN.{length, take, drop, set, length-append, length-take, length-drop, drop_of_length-le}
-use lib.Seq.{take_all, take_at, take-append-le, take-append-add, length-take-le, drop-drop}
+use lib.ListN.{length, take, drop, set, length-append, length-drop, drop_of_length-le}
+use lib.Seq.{take_all, take-append-le, take-append-add, length-take-le, drop-drop}
 use borrow.Author.Tests.{leb-true, leb-false}
 use borrow.Rule.Slice.PartMut.{put_mid, mid_of, post_of}
 use Rattle.std.proofs.lemmas.List.{take_min}
@@ -51,13 +51,6 @@ module _ (w o₀ o : List ℕ) (n : ℕ) (k : Kept w o₀ o n) where
       go (some_of l e) = long l
       go (all_of l e) = long (omega (arith, k.count, ap length e))
 
-  -- They stand at the start of the room.
-  pub kept_front : take n o ≡ take (length o₀) w
-  kept_front = rw (k.bytes, k.count) (take_at (take (length o₀) w) _ (length (take (length o₀) w)) refl)
-
-  pub kept_within : n ≤ length o
-  kept_within = omega (arith, k.count, ap length k.bytes, length-append (take (length o₀) w) (drop (length (take (length o₀) w)) o₀))
-
 -- What is put behind the first k bytes of a room.
 module _ (s w : List ℕ) (count k : ℕ) (e : k ≡ min count (length s)) (ys : List ℕ) (m : ℕ) (kept : Kept w (mid_of k (length s - k) s) ys m) where
   within : k ≤ length s
@@ -79,9 +72,6 @@ module _ (s w : List ℕ) (count k : ℕ) (e : k ≡ min count (length s)) (ys :
       let size : length s ≡ length (take k s) + (length s - k) = omega (arith, head) in
       ap (λ (l : List ℕ). take (length s) (l ++ w)) (sym same)
       ∙ ap (λ (n : ℕ). take n (take k s ++ w)) size ∙ take-append-add (take k s) w (length s - k)
-
-  pub behind_within : k + m ≤ length s
-  behind_within = omega (arith, within, kept.count, length-take (length (mid_of k (length s - k) s)) w, ap length rest, left)
 
   pub kept_behind : Kept (take count s ++ w) s (put_mid k (length s - k) s ys) (k + m)
   kept_behind =

@@ -160,7 +160,7 @@ impl Cable {
     // Inside a message: on to its end, or all of the input. The caller below has seen that one is open, and that the places fit.
     #[tactic(auto, using(crate::proofs::Spans::spans))]
     fn follow(&mut self, input: &[u8]) -> Fed
-        requires open { self.old.inside ≡ true }
+        requires inside { self.old.inside ≡ true }
         requires before_end { self.old.over ≡ false }
         requires fits { self.old.taken + length input.now ≤ limit }
         ensures { Leaves (goes self.old input.now) self.new result }
@@ -188,7 +188,7 @@ impl Cable {
     // The caller below has seen that none is open, and that the places fit.
     #[tactic(auto, using(crate::proofs::Spans::spans))]
     fn seek(&mut self, input: &[u8]) -> Fed
-        requires open { self.old.inside ≡ false }
+        requires outside { self.old.inside ≡ false }
         requires fits { self.old.taken + length input.now ≤ limit }
         ensures { Leaves (goes self.old input.now) self.new result }
     {

@@ -70,7 +70,7 @@ pub extern "C" fn matrix_cable_fresh() -> Cable
     cable::fresh()
 }
 
-// Feeds a reader, whose record is updated.
+// Feeds a reader, whose record is updated: a thin function over the step by value, as document 02 has it; so the next one.
 #[unsafe(no_mangle)]
 pub extern "C" fn matrix_cable_feed(state: &mut Cable, input: &[u8]) -> Fed
     ensures { Leaves (feeding state.old input.now) state.new result }
