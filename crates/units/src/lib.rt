@@ -15,7 +15,7 @@ use reading::walking::Report;
 // The length of the message that is sent on.
 const SENT: usize = GroupMode::LENGTH;
 
-// What a unit keeps. Its number counts while it is in group mode.
+// What a unit keeps. Its number counts while it is in group mode: two fields, since C has this struct, and a number outlives its group.
 #[repr(C)]
 #[derive(Clone, Copy, Debug, PartialEq, Eq)]
 pub struct Unit {
@@ -178,6 +178,7 @@ impl Unit {
     {
         let reading = walk_with_bytes(s, place);
         let report = reading.report;
+        // The detail of an accepted message is its opcode.
         let act = if report.outcome.answer == DONE {
             self.takes(kind_of((report.outcome.detail % 256) as u8), reading.bytes)
         } else {
