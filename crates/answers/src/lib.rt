@@ -1,7 +1,7 @@
 // The register's numbers, and the answer of a routine, with a place or without one.
 #![tactic(auto)]
 
-ghost use Rattle.std.specs.Prelude.{◌≡◌};
+ghost use Rattle.std.specs.Prelude.{◌≡◌, nat_eq};
 ghost use Rattle.answers.specs.Table.{outcome, outcome_at};
 ghost use Rattle.answers.specs.Effect.{no_place};
 ghost use Rattle.answers.specs.Refusals.{outcome_by, told, told_test};
@@ -49,9 +49,6 @@ pub const NOT_ACCEPTED: u8 = 20;
 // Document 02 (iv): a feed with which more than 4,294,967,295 bytes would have been taken.
 pub const TOO_MANY: u8 = 21;
 
-// The greatest number of 64 bits.
-const LAST: usize = 0xFFFF_FFFF_FFFF_FFFF;
-
 // An answer and its detail; with 11 also the value that was found, with its sign, and 0 with every other answer. In this order it has
 // sixteen bytes, which two registers take.
 #[repr(C)]
@@ -60,6 +57,15 @@ pub struct Outcome {
     pub answer: u8,
     pub value: i16,
     pub detail: usize,
+}
+
+impl Outcome {
+    // Whether it is done, and not refused.
+    pub fn is_done(self) -> bool
+        ensures { result ≡ nat_eq self.answer 0 }
+    {
+        self.answer == DONE
+    }
 }
 
 // An outcome, and the place of what it refuses: the number of a bank's patch, where a message or a record of a unit's file starts; 0 where it
@@ -196,9 +202,5 @@ pub fn no_place(outcome: Outcome) -> Placed
 pub fn as_number(value: i16) -> usize
     ensures { result ≡ as_number value }
 {
-    if value < 0 {
-        let size = (0 - value as i32) as usize;
-        return LAST - size + 1;
-    }
-    value as usize
+    (value as isize).cast_unsigned()
 }
