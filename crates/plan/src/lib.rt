@@ -2,24 +2,25 @@
 // or as lines, and for the standard error `done`; or nothing and why there is no list.
 #![tactic(auto)]
 
-ghost use Rattle.std.specs.Prelude.{◌≡◌, ◌≤◌, ◌<◌, length, get_or, replicate};
+ghost use Rattle.std.specs.Prelude.{◌≡◌, ◌<◌, get_or, replicate};
 ghost use Rattle.answers.specs.Effect.{tested};
 ghost use Rattle.streams.specs.Stream.{between};
-ghost use Rattle.fields.specs.Fields.{size};
-ghost use Rattle.text.specs.Text.{Puts};
+ghost use Rattle.fields.specs.Fields.{value_at};
+ghost use Rattle.patch.specs.Patch.{source_at};
+ghost use Rattle.text.specs.Text.{signed, Puts};
 ghost use Rattle.pairs.specs.Pairs.{pair_rows};
 ghost use Rattle.edit_lists.specs.Lists.{list_bytes};
 ghost use Rattle.edit_lists.specs.Plan.{plan};
-ghost use Rattle.edit_lists.specs.code.Left.{Part};
-ghost use Rattle.plan.specs.Files.{is_patch_dump, only_real_time, found_in, patch_in, sentence};
-ghost use Rattle.plan.specs.Said.{shown_at, parameter_line, bus_values, bus_line, change_line, change_lines, proposing, is_one, by_files, three_bytes, said_of};
-ghost use Rattle.plan.specs.code.Written.{least, room_most, Says};
+ghost use Rattle.plan.specs.Files.{is_patch_dump, only_real_time, patch_in, sentence};
+ghost use Rattle.plan.specs.Said.{parameter_line, bus_values, bus_line, change_line, change_lines, proposing, by_files, three_bytes, said_of};
+ghost use Rattle.plan.specs.code.Written.{room_most, finding, Says};
 
 use answers::{DONE, NO_MESSAGE, Outcome};
-use fields::{AMOUNT_AT, BytePlace, DESTINATION_AT, FoundParameter, NAME_SIZE, SOURCE_AT};
+use fields::{AMOUNT_AT, BytePlace, DESTINATION_AT, FoundParameter, SOURCE_AT};
 use frames::END;
 use listing::MOST;
 use messages::kinds::{EditBuffer, PATCH, SinglePatch};
+use planner::parts::{Differing, Part};
 use reading::walking::Report;
 
 // A byte that says what is wanted, and the length of the first file in three, low byte first.
@@ -36,10 +37,9 @@ const LONGEST: usize = 762;
 
 const WANTS_LINES: u8 = 1;
 
-// What a file comes to: its one accepted patch dump, or what else was found.
+// What a file comes to where it is not one accepted patch dump.
 #[derive(Clone, Copy)]
-pub enum Found {
-    One,
+pub enum Wrong {
     TooLong,
     NoPatch,
     NotOne(Report),
@@ -57,57 +57,40 @@ pub struct Written {
 fn is_patch_dump(outcome: Outcome) -> bool
     ensures { result ≡ is_patch_dump outcome }
 {
-    if outcome.answer != DONE {
-        return false;
-    }
-    if outcome.detail == SinglePatch::OPCODE as usize {
-        return true;
-    }
-    outcome.detail == EditBuffer::OPCODE as usize
+    let opcode = outcome.detail;
+    outcome.answer == DONE
+        && (opcode == SinglePatch::OPCODE as usize || opcode == EditBuffer::OPCODE as usize)
 }
 
 // Nothing but real time stands from one place up to another.
 fn only_real_time(s: &[u8], from: usize, to: usize) -> bool
     ensures { result ≡ only_real_time (between s.now from to) }
 {
-    let mut i = from;
-    while i < to {
-        if s.len() <= i {
-            return true;
-        }
-        if s[i] <= END {
-            return false;
-        }
-        i += 1;
-    }
-    true
+    s.iter().take(to).skip(from).all(|b| END < *b)
 }
 
-// What a file comes to.
-fn find_patch(s: &[u8]) -> Found
-    ensures { result ≡ found_in s.now }
+// The patch of a file that is one accepted patch dump, or what else it comes to.
+fn find_patch(s: &[u8]) -> Result<[u8; PATCH], Wrong>
+    ensures { result ≡ finding s.now }
 {
     if MOST < s.len() {
-        return Found::TooLong;
+        return Err(Wrong::TooLong);
     }
     let first = reading::walking::walk(s, 0);
     if first.outcome.answer == NO_MESSAGE {
-        return Found::NoPatch;
+        return Err(Wrong::NoPatch);
     }
     if !is_patch_dump(first.outcome) {
-        return Found::NotOne(first);
+        return Err(Wrong::NotOne(first));
     }
     let next = reading::walking::walk(s, first.end);
     if next.outcome.answer != NO_MESSAGE {
-        return Found::NotOne(next);
+        return Err(Wrong::NotOne(next));
     }
-    if !only_real_time(s, 0, first.start) {
-        return Found::Outside;
+    if !only_real_time(s, 0, first.start) || !only_real_time(s, first.end, s.len()) {
+        return Err(Wrong::Outside);
     }
-    if !only_real_time(s, first.end, s.len()) {
-        return Found::Outside;
-    }
-    Found::One
+    Ok(patch_in(s))
 }
 
 // The patch of a file's first dump.
@@ -120,58 +103,59 @@ fn patch_in(s: &[u8]) -> [u8; PATCH]
 }
 
 // What else was found in a file, as a line.
-fn put_found(room: &mut [u8], at: usize, found: Found) -> usize
-    ensures { Puts (sentence found) room.old at room.new result }
+fn put_wrong(room: &mut [u8], at: usize, wrong: Wrong) -> usize
+    ensures { Puts (sentence wrong) room.old at room.new result }
 {
-    match found {
-        Found::One => at,
-        Found::TooLong => listing::put_too_long(room, at),
-        Found::NoPatch => text::put(room, at, b"no patch dump\n"),
-        Found::NotOne(report) => {
+    match wrong {
+        Wrong::TooLong => listing::put_too_long(room, at),
+        Wrong::NoPatch => text::put(room, at, b"no patch dump\n"),
+        Wrong::NotOne(report) => {
             let end = text::put(room, at, b"not one accepted patch dump: ");
             listing::put_report(room, end, report)
         }
-        Found::Outside => text::put(room, at, b"bytes outside the patch dump\n"),
+        Wrong::Outside => text::put(room, at, b"bytes outside the patch dump\n"),
     }
 }
 
-// The value of a byte place in a patch, with its sign, and the byte behind it. The callers below name a place of a patch.
-fn put_value(room: &mut [u8], at: usize, p: &[u8], place: usize, behind: u8) -> usize
-    requires { (length p.now ≡ size) × (place < size) }
-    ensures { Puts (shown_at p.now place behind) room.old at room.new result }
+// The value of a byte at a place, with its sign, and the byte behind it.
+fn put_value(room: &mut [u8], at: usize, place: BytePlace, b: u8, behind: u8) -> usize
+    ensures { Puts (signed (value_at place.0 b) behind) room.old at room.new result }
 {
-    let value = fields::value_at(BytePlace(place as u8), p[place]);
+    let value = fields::value_at(place, b);
     text::put_signed(room, at, answers::as_number(value), behind)
 }
 
-// The line of a parameter: byte place, parameter, its value before and after. `put_change` has seen that the place has one.
-fn put_parameter(room: &mut [u8], at: usize, a: &[u8], b: &[u8], k: usize) -> usize
-    requires { (length a.now ≡ size) × (length b.now ≡ size) × (8 ≤ k) × (k < 104) }
-    ensures { Puts (parameter_line a.now b.now k) room.old at room.new result }
+// The line of a parameter: byte place, parameter, its value before and after. `put_change` has seen that the part is one.
+fn put_parameter(room: &mut [u8], at: usize, a: &[u8; PATCH], b: &[u8; PATCH], part: Part) -> usize
+    requires { part.place < source_at 0 }
+    ensures { Puts (parameter_line a.now b.now part.place) room.old at room.new result }
 {
-    let FoundParameter::Of(parameter) = fields::parameter_of(BytePlace(k as u8)) else {
+    let k = part.place;
+    let byte_place = BytePlace(k as u8);
+    let FoundParameter::Of(parameter) = fields::parameter_of(byte_place) else {
         return at;
     };
     let place = text::put_number(room, at, k, b' ');
     let word = text::put(room, place, b"parameter ");
     let number = text::put_number(room, word, parameter.0 as usize, b' ');
-    let before = put_value(room, number, a, k, b' ');
-    put_value(room, before, b, k, b'\n')
+    let before = put_value(room, number, byte_place, a[k], b' ');
+    put_value(room, before, byte_place, b[k], b'\n')
 }
 
 // Source, amount and destination of a bus, and the byte behind them.
-fn put_values(room: &mut [u8], at: usize, p: &[u8], bus: usize, behind: u8) -> usize
-    requires { (length p.now ≡ size) × (bus < 10) }
+fn put_values(room: &mut [u8], at: usize, p: &[u8; PATCH], bus: usize, behind: u8) -> usize
+    requires { bus < 10 }
     ensures { Puts (bus_values p.now bus behind) room.old at room.new result }
 {
-    let source = put_value(room, at, p, SOURCE_AT + 3 * bus, b' ');
-    let amount = put_value(room, source, p, AMOUNT_AT + 3 * bus, b' ');
-    put_value(room, amount, p, DESTINATION_AT + 3 * bus, behind)
+    let k = SOURCE_AT + 3 * bus;
+    let source = put_value(room, at, BytePlace(k as u8), p[k], b' ');
+    let amount = put_value(room, source, BytePlace(k as u8 + 1), p[k + 1], b' ');
+    put_value(room, amount, BytePlace(k as u8 + 2), p[k + 2], behind)
 }
 
 // The line of a bus: byte place, bus, its values before and after.
-fn put_bus(room: &mut [u8], at: usize, a: &[u8], b: &[u8], bus: usize) -> usize
-    requires { (length a.now ≡ size) × (length b.now ≡ size) × (bus < 10) }
+fn put_bus(room: &mut [u8], at: usize, a: &[u8; PATCH], b: &[u8; PATCH], bus: usize) -> usize
+    requires { bus < 10 }
     ensures { Puts (bus_line a.now b.now bus) room.old at room.new result }
 {
     let place = text::put_number(room, at, SOURCE_AT + 3 * bus, b' ');
@@ -181,38 +165,29 @@ fn put_bus(room: &mut [u8], at: usize, a: &[u8], b: &[u8], bus: usize) -> usize
     put_values(room, before, b, bus, b'\n')
 }
 
-// The line of the edit at a place.
-fn put_change(room: &mut [u8], at: usize, a: &[u8], b: &[u8], k: usize) -> usize
-    requires { (length a.now ≡ size) × (length b.now ≡ size) × Part k }
-    ensures { Puts (change_line a.now b.now k) room.old at room.new result }
+// The line of the edit for a part.
+fn put_change(room: &mut [u8], at: usize, a: &[u8; PATCH], b: &[u8; PATCH], part: Part) -> usize
+    ensures { Puts (change_line a.now b.now part.place) room.old at room.new result }
 {
-    if k < SOURCE_AT {
-        return put_parameter(room, at, a, b, k);
+    if part.place < SOURCE_AT {
+        return put_parameter(room, at, a, b, part);
     }
-    put_bus(room, at, a, b, (k - SOURCE_AT) / 3)
+    put_bus(room, at, a, b, (part.place - SOURCE_AT) / 3)
 }
 
 // A line for each edit.
-fn put_changes(room: &mut [u8], at: usize, a: &[u8], b: &[u8]) -> usize
-    requires { (length a.now ≡ size) × (length b.now ≡ size) }
+fn put_changes(room: &mut [u8], at: usize, a: &[u8; PATCH], b: &[u8; PATCH]) -> usize
     ensures { Puts (change_lines a.now b.now) room.old at room.new result }
 {
     let mut end = at;
-    let mut k = NAME_SIZE;
-    while k < PATCH {
-        let next = k + planner::width_of(k);
-        if pairs::same(&a[k..next], &b[k..next]) {
-            k = next;
-        } else {
-            end = put_change(room, end, a, b, k);
-            k = next;
-        }
+    for part in Differing::of(a, b) {
+        end = put_change(room, end, a, b, part);
     }
     end
 }
 
 // The list as bytes. Its caller has tested both patches.
-fn put_list(room: &mut [u8], at: usize, a: &[u8], b: &[u8]) -> usize
+fn put_list(room: &mut [u8], at: usize, a: &[u8; PATCH], b: &[u8; PATCH]) -> usize
     requires { (tested (pair_rows a.now b.now)).answer ≡ 0 }
     ensures { Puts (list_bytes (plan a.now b.now)) room.old at room.new result }
 {
@@ -222,22 +197,8 @@ fn put_list(room: &mut [u8], at: usize, a: &[u8], b: &[u8]) -> usize
     text::put(room, at, &list[..n])
 }
 
-// A file comes to one accepted patch dump.
-fn is_one(found: Found) -> bool
-    ensures { result ≡ is_one found }
-{
-    match found {
-        Found::One => true,
-        Found::TooLong => false,
-        Found::NoPatch => false,
-        Found::NotOne(_) => false,
-        Found::Outside => false,
-    }
-}
-
 // The list that turns a into b, as lines or as bytes, or that their names differ.
-fn put_proposal(room: &mut [u8], lines: bool, a: &[u8], b: &[u8]) -> Written
-    requires { (length a.now ≡ size) × (length b.now ≡ size) }
+fn put_proposal(room: &mut [u8], lines: bool, a: &[u8; PATCH], b: &[u8; PATCH]) -> Written
     ensures { Says (proposing lines a.now b.now) room.old room.new result }
 {
     let pair = pairs::test_pair(a, b);
@@ -245,12 +206,11 @@ fn put_proposal(room: &mut [u8], lines: bool, a: &[u8], b: &[u8]) -> Written
         let end = text::put(room, 0, b"names differ: no edit reaches a name\n");
         return Written { out: 0, end };
     }
-    if lines {
-        let out = put_changes(room, 0, a, b);
-        let end = text::put(room, out, b"done\n");
-        return Written { out, end };
-    }
-    let out = put_list(room, 0, a, b);
+    let out = if lines {
+        put_changes(room, 0, a, b)
+    } else {
+        put_list(room, 0, a, b)
+    };
     let end = text::put(room, out, b"done\n");
     Written { out, end }
 }
@@ -259,46 +219,33 @@ fn put_proposal(room: &mut [u8], lines: bool, a: &[u8], b: &[u8]) -> Written
 fn answer_files(lines: bool, returned: &[u8], lent: &[u8], room: &mut [u8]) -> Written
     ensures { Says (by_files lines returned.now lent.now) room.old room.new result }
 {
-    let first = find_patch(returned);
-    if !is_one(first) {
-        let word = text::put(room, 0, b"returned: ");
-        let end = put_found(room, word, first);
-        return Written { out: 0, end };
+    match (find_patch(returned), find_patch(lent)) {
+        (Err(wrong), _) => {
+            let word = text::put(room, 0, b"returned: ");
+            let end = put_wrong(room, word, wrong);
+            Written { out: 0, end }
+        }
+        (Ok(_), Err(wrong)) => {
+            let word = text::put(room, 0, b"lent: ");
+            let end = put_wrong(room, word, wrong);
+            Written { out: 0, end }
+        }
+        (Ok(a), Ok(b)) => put_proposal(room, lines, &a, &b),
     }
-    let second = find_patch(lent);
-    if !is_one(second) {
-        let word = text::put(room, 0, b"lent: ");
-        let end = put_found(room, word, second);
-        return Written { out: 0, end };
-    }
-    put_proposal(room, lines, &patch_in(returned), &patch_in(lent))
 }
 
 // A number of three bytes, low byte first.
 fn number_of(low: u8, middle: u8, high: u8) -> usize
     ensures { (result ≡ three_bytes low middle high) × (result < 16777216) }
 {
-    low as usize + (256 * middle as usize + 65536 * high as usize)
+    u32::from_le_bytes([low, middle, high, 0]) as usize
 }
 
 // A byte of the input, 0 past its end.
 fn byte_at(input: &[u8], i: usize) -> u8
     ensures { result ≡ get_or input.now i 0 }
 {
-    if input.len() <= i {
-        return 0;
-    }
-    input[i]
-}
-
-// A place in the input: its end, where it has fewer bytes.
-fn place_in(input: &[u8], at: usize) -> usize
-    ensures { result ≡ least at (length input.now) }
-{
-    if input.len() < at {
-        return input.len();
-    }
-    at
+    input.get(i).copied().unwrap_or(0)
 }
 
 // A room that takes all that can be said.
@@ -314,7 +261,7 @@ pub fn answer(input: &[u8], room: &mut [u8]) -> Written
 {
     let lines = byte_at(input, 0) == WANTS_LINES;
     let size = number_of(byte_at(input, 1), byte_at(input, 2), byte_at(input, 3));
-    let from = place_in(input, HEAD);
-    let to = place_in(input, HEAD + size);
+    let from = HEAD.min(input.len());
+    let to = (HEAD + size).min(input.len());
     answer_files(lines, &input[from..to], &input[to..], room)
 }

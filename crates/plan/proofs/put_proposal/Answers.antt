@@ -1,13 +1,16 @@
 -- `put_proposal` puts the list, as lines or as bytes, and the word behind it, or that the names differ: each return is a case of `proposing`.
-use mathlib.Core.Path.{◌≡◌, sym, ap, ◌∙◌}
+use Rattle.std.proofs.Common.{◌≡◌, sym, ap, ◌∙◌, cond}
 use borrow.Author.Tests.{ne_eqb}
 use Rattle.answers.specs.declared.Outcome.{Outcome}
 use Rattle.answers.specs.Effect.{tested}
 use Rattle.pairs.specs.Pairs.{pair_rows}
-use Rattle.text.specs.Text.{ascii}
+use Rattle.text.specs.Text.{ascii, Puts}
 use Rattle.text.proofs.Puts.{puts_none}
-use Rattle.plan.specs.Said.{proposing}
+use Rattle.edit_lists.specs.Lists.{list_bytes}
+use Rattle.edit_lists.specs.Plan.{plan}
+use Rattle.plan.specs.Said.{change_lines, proposing}
 use Rattle.plan.proofs.Lines.{says}
+use Rattle.plan.proofs.put_proposal.Goals.{then-lines, else-lines}
 use Rattle.plan.proofs.put_proposal.Goals as goal
 
 -- The pair's answer.
@@ -23,14 +26,14 @@ returns-then-pair-ne-DONE c =
 pub put_list-out-requires : goal.put_list-out-requires
 put_list-out-requires c = sym (answer_is c.test_pair-pair.ensures) ∙ c.if-pair-ne-DONE.false
 
-pub returns-then-lines : goal.returns-then-lines
-unfolding proposing ascii
-returns-then-lines c =
-    let passed : (tested (pair_rows c.args.a.now c.args.b.now)).answer ≡ 0 = sym (answer_is c.test_pair-pair.ensures) ∙ c.if-pair-ne-DONE.false in
-    rw (passed, c.if-lines.true) (says c.put_changes-out.ensures c.put-end-then-lines.ensures)
-
 pub returns : goal.returns
 unfolding proposing ascii
 returns c =
-    let passed : (tested (pair_rows c.args.a.now c.args.b.now)).answer ≡ 0 = sym (answer_is c.test_pair-pair.ensures) ∙ c.if-pair-ne-DONE.false in
-    rw (passed, c.if-lines.false) (says c.put_list-out.ensures c.put-end-2.ensures)
+    let k = c.args in
+    let passed : (tested (pair_rows k.a.now k.b.now)).answer ≡ 0 = sym (answer_is c.test_pair-pair.ensures) ∙ c.if-pair-ne-DONE.false in
+    let list : Puts (cond k.lines (change_lines k.a.now k.b.now) (list_bytes (plan k.a.now k.b.now))) k.room.now 0 c.if-lines.room c.if-lines.out =
+    elim c.if-lines.branch [
+      | then-lines w ↦ rw (w.room-is, w.out-is, w.if-lines.true) w.put_changes-out.ensures
+      | else-lines w ↦ rw (w.room-is, w.out-is, w.if-lines.false) w.put_list-out.ensures
+    ] in
+    rw passed (says list c.put-end-2.ensures)

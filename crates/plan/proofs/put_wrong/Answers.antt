@@ -1,12 +1,8 @@
--- `put_found` puts the line of what was found: each return is a case of `sentence`.
+-- `put_wrong` puts the line of what was found: each return is a case of `sentence`.
 use Rattle.text.specs.Text.{ascii}
-use Rattle.text.proofs.Puts.{puts_none, puts_then}
+use Rattle.text.proofs.Puts.{puts_then}
 use Rattle.plan.specs.Files.{sentence}
-use Rattle.plan.proofs.put_found.Goals as goal
-
-pub returns-in-One : goal.returns-in-One
-unfolding sentence
-returns-in-One c = rw c.in-One.is (puts_none _ _)
+use Rattle.plan.proofs.put_wrong.Goals as goal
 
 pub returns-in-TooLong : goal.returns-in-TooLong
 unfolding sentence
