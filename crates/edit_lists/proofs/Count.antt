@@ -132,7 +132,7 @@ module _ (a b : List ℕ) (g : Good a) (f : Good b) where
   pub parts_counted : length (differing parts a b) ≡ count_below 100 (parameter_differs a b) + count_below 10 (bus_differs a b)
   parts_counted =
       let fields_so =
-          sym (tally_same (byte a b) (part a b) 96 8 field_part) ∙ ap (tally (byte a b)) (sym in_order) ∙ sort_tally (byte a b) (places 100)
+      sym (tally_same (byte a b) (part a b) 96 8 field_part) ∙ ap (tally (byte a b)) (sym in_order) ∙ sort_tally (byte a b) (places 100)
       ∙ sym (by_place a b 100) in
       let buses_so = sort_tally (part a b) (buses_below 10) ∙ sym (bus_part 10) in
       let all = differ_tally a b parts ∙ ap (tally (part a b)) all_parts ∙ tally_append (part a b) (up_from 96 8) (sort (buses_below 10)) in

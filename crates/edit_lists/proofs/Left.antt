@@ -11,16 +11,11 @@ use Rattle.fields.specs.declared.Parameter.{Parameter}
 use Rattle.fields.specs.Fields.{parameter_at, parameter_of}
 use Rattle.fields.specs.code.Lookups.{found_parameter}
 use Rattle.fields.proofs.Rules.{parameter_known}
-use Rattle.patch.specs.Patch.{source_at}
 use Rattle.edit_lists.specs.Lists.{message_for, list_bytes}
-use Rattle.edit_lists.specs.Plan.{width_of, parts_from, parts, same_at, differing, bus_at, reaching, plan}
+use Rattle.edit_lists.specs.Plan.{width_of, parts_from, parts, same_at, differing, reaching, plan}
 use Rattle.edit_lists.specs.code.Left.{IsPart, Stands, count_left, parts_left, length_at}
 use Rattle.edit_lists.proofs.Parts.{Tiles, parts_tile, width_field, width_bus}
 use Rattle.edit_lists.proofs.Lists.{by_order}
-
--- A part from 104 on is a bus.
-pub bus_begins : (k : ℕ) → IsPart k → 104 ≤ k → (k ≡ source_at (bus_at k)) × (bus_at k < 10)
-bus_begins k p u = let e = p.2 u in (e, omega arith)
 
 -- A part ends within the patch.
 pub part_end : (k : ℕ) → IsPart k → (1 ≤ width_of k) × (k + width_of k ≤ 134)

@@ -298,7 +298,7 @@ bus_rows_hold c b h f =
     let none_behind = none_out fields (suc (suc (suc (source_at c)))) in
     let o₂ = one_more_in fields (suc (suc (source_at c))) d [] (rw k₂ (good_range b f (destination_at c) (omega arith))) none_behind in
     let o₁ =
-        one_more_in fields (suc (source_at c)) (extended a) (d ∷ []) (rw (k₁, amount_stored c b h f) (good_range b f (amount_at c) (omega arith))) o₂ in
+    one_more_in fields (suc (source_at c)) (extended a) (d ∷ []) (rw (k₁, amount_stored c b h f) (good_range b f (amount_at c) (omega arith))) o₂ in
     let o₀ = one_more_in fields (source_at c) s (extended a ∷ d ∷ []) (good_range b f (source_at c) (omega arith)) o₁ in
     bus_silent c s a d (omega arith) (small (get_or b (amount_at c) 0)) o₀ (good_whole b f c h)
 

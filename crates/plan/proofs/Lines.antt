@@ -1,4 +1,4 @@
--- What is put for both outputs; a pass over the parts that puts a line for each in which two patches differ; and how long the lines can be.
+-- What is put for both outputs; the line for a part; and how long the lines can be.
 use mathlib.Core.Path.{◌≡◌, refl, ◌∙◌}
 use mathlib.Core.Bool.{Bool, true, false, cond}
 use mathlib.Core.List.{List, [], ◌∷◌, ◌++◌}
@@ -11,9 +11,9 @@ use Rattle.text.specs.Text.{ascii, followed, Gains}
 use Rattle.text.specs.declared.Text.{Text}
 use Rattle.text.proofs.Spaced.{followed_most, signed_most}
 use Rattle.text.proofs.Puts.{gains_none, gains_then}
-use Rattle.edit_lists.specs.Plan.{is_parameter, bus_at, parts_from, parts, same_at, differing}
-use Rattle.edit_lists.specs.code.Left.{IsPart, parts_left}
-use Rattle.edit_lists.proofs.Left.{Stands, left_start, Step, none_left, sum_of, most_changes}
+use Rattle.edit_lists.specs.Plan.{is_parameter, bus_at, parts_from, parts, differing}
+use Rattle.edit_lists.specs.code.Left.{IsPart}
+use Rattle.edit_lists.proofs.Left.{sum_of, most_changes}
 use Rattle.plan.specs.Said.{said, shown_at, parameter_line, bus_values, bus_line, change_line, lines_for, change_lines}
 use Rattle.plan.specs.code.Written.{PutsBoth}
 
@@ -22,29 +22,21 @@ pub both : {o v : List ℕ} {a b c : Text} {between : ℕ} → between ≡ b.end
 both e g h = record { out = e ∙ g.puts.ends; gains = gains_then g h; ordered = omega (arith, h.puts.ends) }
 
 -- What goes to the standard error alone.
-pub told : {v : List ℕ} {a c : Text} {between : ℕ} → between ≡ a.end → Gains v a c → PutsBoth (said [] v) a c between
-told {v} {a} e h = both e (gains_none a) h
+pub err_alone : {v : List ℕ} {a c : Text} {between : ℕ} → between ≡ a.end → Gains v a c → PutsBoth (said [] v) a c between
+err_alone {v} {a} e h = both e (gains_none a) h
 
--- The lines for those of the parts from place k on in which two patches differ.
-unfoldable pub lines_left : ℕ → List ℕ → List ℕ → List ℕ
-lines_left k a b = lines_for a b (differing (parts_left k) a b)
+-- The line for the first of some parts comes first.
+pub first_line : (a b : List ℕ) (k : ℕ) (ks : List ℕ) → lines_for a b (k ∷ ks) ≡ change_line a b k ++ lines_for a b ks
+unfolding lines_for
+first_line a b k ks = refl
 
-pub lines_start : (a b : List ℕ) → lines_left 8 a b ≡ change_lines a b
-unfolding lines_left change_lines
-lines_start a b = rw left_start
+pub no_lines : (a b : List ℕ) → lines_for a b [] ≡ []
+unfolding lines_for
+no_lines a b = refl
 
-pub lines_none : (a b : List ℕ) (k : ℕ) → Stands k → 134 ≤ k → lines_left k a b ≡ []
-unfolding lines_left lines_for
-lines_none a b k s h = rw (none_left a b k s h)
-
-module _ {a b : List ℕ} {k w : ℕ} (s : Step a b k w) where
-  pub lines_same : same_at k a b ≡ true → lines_left k a b ≡ lines_left (k + w) a b
-  unfolding lines_left
-  lines_same t = rw (s.same t)
-
-  pub lines_other : same_at k a b ≡ false → lines_left k a b ≡ change_line a b k ++ lines_left (k + w) a b
-  unfolding lines_left lines_for
-  lines_other t = rw (s.other t)
+pub all_lines_for : (a b : List ℕ) → lines_for a b (differing parts a b) ≡ change_lines a b
+unfolding change_lines
+all_lines_for a b = refl
 
 -- A text has at most so many bytes; two of them joined.
 pub record Most (w : List ℕ) (n : ℕ) : Type 0 where

@@ -47,15 +47,15 @@ use Rattle.edit_lists.specs.Check.{checking}
 use Rattle.edit_lists.proofs.Reach.{good_silent}
 use Rattle.edit_lists.proofs.Left.{list_most}
 use Rattle.edit_lists.proofs.Answers.{shortest_list}
-use Rattle.plan.specs.declared.Found.{Found}
-use Rattle.plan.specs.declared.Found.TheVariants.{One, TooLong, NoPatch, NotOne, Outside}
-use Rattle.plan.specs.Files.{is_patch_dump, by_second, by_first, found_in, patch_in, sentence}
-use Rattle.plan.specs.Said.{Said, said, change_lines, proposing, is_one, by_files, wants_lines, first_length, said_of}
+use Rattle.plan.specs.declared.Wrong.{Wrong}
+use Rattle.plan.specs.declared.Wrong.TheVariants.{TooLong, NoPatch, NotOne, Outside}
+use Rattle.plan.specs.Files.{Found, One, Not, is_patch_dump, by_second, by_first, found_in, patch_in, sentence}
+use Rattle.plan.specs.Said.{Said, said, change_lines, proposing, unless_wrong, by_files, wants_lines, first_length, said_of}
 use Rattle.plan.specs.promises.Whole.{OnePatch, Holds, Whole}
 use Rattle.plan.specs.declared.Written.{Written}
 use Rattle.plan.specs.code.Written.{Says}
 use Rattle.plan.proofs.Files.{quiet_past, quiet_end, by_quiet}
-use Rattle.plan.proofs.Told.{both_found}
+use Rattle.plan.proofs.Told.{both_are_one}
 use Rattle.plan.proofs.Lines.{Most, joined, lines_most}
 
 -- What comes to one patch has a first message that is an accepted patch dump.
@@ -63,17 +63,17 @@ one_dump : (s : List ℕ) → found_in s ≡ One → is_patch_dump (walked s 0).
 unfolding found_in
 one_dump s e = by_length (ltb 65536 (length s)) e
   where
-    by_dump : (r : Report) (t : Bool) → is_patch_dump r.outcome ≡ t → cond t (by_second s r (walked s r.end)) (NotOne r) ≡ One → t ≡ true
+    by_dump : (r : Report) (t : Bool) → is_patch_dump r.outcome ≡ t → cond t (by_second s r (walked s r.end)) (Not (NotOne r)) ≡ One → t ≡ true
     by_dump r true q e = refl
-    by_dump r false q e = let z : ◌≡◌ {A = ℕ} 0 1 = cc in absurd (omega arith)
+    by_dump r false q e = cc
 
-    by_answer : (r : Report) (t : Bool) → cond t NoPatch (cond (is_patch_dump r.outcome) (by_second s r (walked s r.end)) (NotOne r)) ≡ One
+    by_answer : (r : Report) (t : Bool) → cond t (Not NoPatch) (cond (is_patch_dump r.outcome) (by_second s r (walked s r.end)) (Not (NotOne r))) ≡ One
         → is_patch_dump r.outcome ≡ true
-    by_answer r true e = let z : ◌≡◌ {A = ℕ} 0 1 = cc in absurd (omega arith)
+    by_answer r true e = cc
     by_answer r false e = by_dump r (is_patch_dump r.outcome) refl e
 
-    by_length : (t : Bool) → cond t TooLong (by_first s (walked s 0)) ≡ One → is_patch_dump (walked s 0).outcome ≡ true
-    by_length true e = let z : ◌≡◌ {A = ℕ} 0 1 = cc in absurd (omega arith)
+    by_length : (t : Bool) → cond t (Not TooLong) (by_first s (walked s 0)) ≡ One → is_patch_dump (walked s 0).outcome ≡ true
+    by_length true e = cc
     by_length false e = by_answer (walked s 0) (eqb (walked s 0).outcome.answer 1) e
 
 -- The opcode of such a dump, 01H or 0DH, and its answer.
@@ -84,8 +84,8 @@ opcodes o e = go (eqb o.answer 0) (eqb o.detail 1) (eqb o.detail 13) refl refl r
         → (o.answer ≡ 0) × ((o.detail ≡ 1) ⊎ (o.detail ≡ 13))
     go true true v p q r e = (eqb-true o.answer 0 p, inl (eqb-true o.detail 1 q))
     go true false true p q r e = (eqb-true o.answer 0 p, inr (eqb-true o.detail 13 r))
-    go true false false p q r e = let z : ◌≡◌ {A = ℕ} 0 1 = cc in absurd (omega arith)
-    go false u v p q r e = let z : ◌≡◌ {A = ℕ} 0 1 = cc in absurd (omega arith)
+    go true false false p q r e = cc
+    go false u v p q r e = cc
 
 -- The packed bytes of a message with one of these opcodes are a good patch.
 kind_1 : kind_of 1 ≡ of_dump single_patch
@@ -153,7 +153,7 @@ one_patch s e = go (stream.walk judge s 0) refl (one_dump s e)
         }
 
     go : (o : Option stream.Report) → stream.walk judge s 0 ≡ o → is_patch_dump (report_or (length s) o).outcome ≡ true → OnePatch s
-    go none w d = let z : ◌≡◌ {A = ℕ} 0 1 = cc in absurd (omega arith)
+    go none w d = cc
     go (some r) w d = by_verdict r w r.verdict refl d
 
 -- Two good patches are refused for their names alone.
@@ -168,9 +168,8 @@ by_name a b g f = go (same_bytes (name_of a) (name_of b)) refl
     go false q = inr (so ∙ rw q)
 
 -- What is told of a file, and what is said in all.
-sentence_most : (f : Found) → Most (sentence f) 200
+sentence_most : (w : Wrong) → Most (sentence w) 200
 unfolding sentence too_long ascii
-sentence_most One = record { bytes = omega arith }
 sentence_most TooLong = record { bytes = omega arith }
 sentence_most NoPatch = record { bytes = omega arith }
 sentence_most (NotOne r) =
@@ -187,8 +186,8 @@ sentence_most Outside = record { bytes = omega arith }
 abbrev Fits : Said → Type 0
 Fits w = length (w.out ++ w.err) ≤ 11264
 
-told_fits : (word : List ℕ) (f : Found) → Most word 10 → Fits (said [] (word ++ sentence f))
-told_fits word f w = let all = joined w (sentence_most f) in omega (arith, all.bytes)
+told_fits : (word : List ℕ) (w : Wrong) → Most word 10 → Fits (said [] (word ++ sentence w))
+told_fits word w m = let all = joined m (sentence_most w) in omega (arith, all.bytes)
 
 list_fits : (lines : Bool) (a b : List ℕ) → Fits (proposing lines a b)
 unfolding proposing ascii
@@ -201,7 +200,7 @@ list_fits lines a b = go (eqb (tested (pair_rows a b)).answer 0) lines
 
 files_fit : (lines : Bool) (r l : List ℕ) → Fits (by_files lines r l)
 unfolding by_files
-files_fit lines r l = go (is_one (found_in r)) (is_one (found_in l))
+files_fit lines r l = go (found_in r) (found_in l)
   where
     words : Most (ascii "returned: ") 10
     words = record { bytes = unfold ascii in (omega arith) }
@@ -209,11 +208,11 @@ files_fit lines r l = go (is_one (found_in r)) (is_one (found_in l))
     word : Most (ascii "lent: ") 10
     word = record { bytes = unfold ascii in (omega arith) }
 
-    go : (t u : Bool) → Fits (cond t (cond u (proposing lines (patch_in r) (patch_in l)) (said [] (ascii "lent: " ++ sentence (found_in l))))
-        (said [] (ascii "returned: " ++ sentence (found_in r))))
-    go true true = list_fits lines (patch_in r) (patch_in l)
-    go true false = told_fits (ascii "lent: ") (found_in l) word
-    go false u = told_fits (ascii "returned: ") (found_in r) words
+    go : (f g : Found)
+        → Fits (unless_wrong (ascii "returned: ") f (unless_wrong (ascii "lent: ") g (proposing lines (patch_in r) (patch_in l))))
+    go One One = list_fits lines (patch_in r) (patch_in l)
+    go One (Not w) = told_fits (ascii "lent: ") w word
+    go (Not w) g = told_fits (ascii "returned: ") w words
 
 said_fits : (s : List ℕ) → Fits (said_of s)
 unfolding said_of
@@ -261,7 +260,7 @@ module _ (k : Dump) (b p : List ℕ) (f : Filed (of_dump k)) (g : Given (of_dump
       let end = length file in
       let r : Report = record { start = 0; end = end; outcome = outcome 0 k.opcode; noise = 0 } in
       let next : Report = record { start = end; end = end; outcome = outcome 1 0; noise = 0 } in (
-        by_quiet file n r (sym (ap (report_or end) found_there)) (λ z. omega arith) d next (sym (ap (report_or end) none_stand_behind)) refl true true
+        by_quiet file n r (sym (ap (report_or end) found_there)) refl d next (sym (ap (report_or end) none_stand_behind)) refl true true
             (quiet_end file 0 0 (omega arith)) (quiet_past file end end (omega arith)),
         reads_patch file (stream.report 0 end (record_for (of_dump k) b p) 0) k.opcode b p found_there refl l,
       )
@@ -295,7 +294,7 @@ proposed r l e f same =
     let pair : Pair a b = ((one_patch r e).good, (one_patch l f).good, same) in
     let passes = tested_passed (pair_rows a b) (pair_silent a b (good_silent a pair.0) (good_silent b pair.1) same) in
     let text : (by_files false r l).out ≡ list_bytes (plan a b) =
-    ap (λ (w : Said). w.out) (both_found false r l (ap is_one e) (ap is_one f)) ∙ rw (ap (λ (o : Outcome). o.answer) passes) in
+    ap (λ (w : Said). w.out) (both_are_one false r l e f) ∙ rw (ap (λ (o : Outcome). o.answer) passes) in
     ap (checking a b) text ∙ shortest_list.accepted a b pair
 
 pub whole : Whole

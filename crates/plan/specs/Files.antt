@@ -9,8 +9,13 @@ use Rattle.reading.specs.declared.walking.Report.{Report}
 use Rattle.reading.specs.code.Told.{walked, reads}
 use Rattle.text.specs.Text.{ascii}
 use Rattle.listing.specs.Listing.{most, line, too_long}
-use Rattle.plan.specs.declared.Found.{Found}
-use Rattle.plan.specs.declared.Found.TheVariants.{One, TooLong, NoPatch, NotOne, Outside}
+use Rattle.plan.specs.declared.Wrong.{Wrong}
+use Rattle.plan.specs.declared.Wrong.TheVariants.{TooLong, NoPatch, NotOne, Outside}
+
+-- What a file comes to: its one accepted patch dump, or something else.
+pub data Found : Type 0 where
+  One : Found
+  Not : Wrong → Found
 
 -- An accepted patch dump, 01H or 0DH.
 abbrev pub is_patch_dump : Outcome → Bool
@@ -27,25 +32,24 @@ alone s r = only_real_time (between s 0 r.start) && only_real_time (between s r.
 
 -- The first message is an accepted patch dump: a second one is told; else it is the one, where it stands alone.
 abbrev pub by_second : List ℕ → Report → Report → Found
-by_second s r next = cond (eqb next.outcome.answer 1) (cond (alone s r) One Outside) (NotOne next)
+by_second s r next = cond (eqb next.outcome.answer 1) (cond (alone s r) One (Not Outside)) (Not (NotOne next))
 
 -- By the first message.
 abbrev pub by_first : List ℕ → Report → Found
 by_first s r =
-    cond (eqb r.outcome.answer 1) NoPatch
-    (cond (is_patch_dump r.outcome) (by_second s r (walked s r.end)) (NotOne r))
+    cond (eqb r.outcome.answer 1) (Not NoPatch)
+    (cond (is_patch_dump r.outcome) (by_second s r (walked s r.end)) (Not (NotOne r)))
 
 -- What a file comes to: too long; without a message; with another message than one accepted patch dump, the first such; with other bytes.
 unfoldable pub found_in : List ℕ → Found
-found_in s = cond (ltb most (length s)) TooLong (by_first s (walked s 0))
+found_in s = cond (ltb most (length s)) (Not TooLong) (by_first s (walked s 0))
 
 -- Its patch: what reading the record leaves in as many bytes as a patch has.
 unfoldable pub patch_in : List ℕ → List ℕ
 patch_in s = (reads s 0 (replicate size 0)).lent
 
--- What is told of a file, as a line: of a message, its line of the listing.
-unfoldable pub sentence : Found → List ℕ
-sentence One = []
+-- What is told of such a file, as a line: of a message, its line of the listing.
+unfoldable pub sentence : Wrong → List ℕ
 sentence TooLong = too_long
 sentence NoPatch = ascii "no patch dump\n"
 sentence (NotOne r) = ascii "not one accepted patch dump: " ++ line r.start r.end r.outcome r.noise

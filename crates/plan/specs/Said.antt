@@ -1,5 +1,5 @@
 -- All that the program `plan` writes for the bytes on its standard input.
-use Rattle.std.specs.Prelude.{Bool, true, false, cond, List, [], ◌∷◌, ◌++◌, ℕ, ◌+◌, ◌*◌, eqb, get_or, take, drop}
+use Rattle.std.specs.Prelude.{Bool, cond, List, [], ◌∷◌, ◌++◌, ℕ, ◌+◌, ◌*◌, eqb, get_or, take, drop}
 use Rattle.answers.specs.Effect.{tested}
 use Rattle.fields.specs.Fields.{parameter_at, value_at}
 use Rattle.patch.specs.Patch.{source_at, amount_at, destination_at}
@@ -7,9 +7,7 @@ use Rattle.pairs.specs.Pairs.{pair_rows}
 use Rattle.text.specs.Text.{ascii, followed, signed}
 use Rattle.edit_lists.specs.Lists.{list_bytes}
 use Rattle.edit_lists.specs.Plan.{is_parameter, parts, differing, bus_at, plan}
-use Rattle.plan.specs.declared.Found.{Found}
-use Rattle.plan.specs.declared.Found.TheVariants.{One, TooLong, NoPatch, NotOne, Outside}
-use Rattle.plan.specs.Files.{found_in, patch_in, sentence}
+use Rattle.plan.specs.Files.{Found, One, Not, found_in, patch_in, sentence}
 
 -- What goes to the standard output, and what to the standard error.
 pub record Said : Type 0 where
@@ -54,19 +52,16 @@ proposing lines a b =
     (said (cond lines (change_lines a b) (list_bytes (plan a b))) (ascii "done\n"))
     (said [] (ascii "names differ: no edit reaches a name\n"))
 
-abbrev pub is_one : Found → Bool
-is_one One = true
-is_one TooLong = false
-is_one NoPatch = false
-is_one (NotOne r) = false
-is_one Outside = false
+-- A file that does not come to one patch is told of, with a word that says which; else what is said of both.
+abbrev pub unless_wrong : List ℕ → Found → Said → Said
+unless_wrong which One more = more
+unless_wrong which (Not w) more = said [] (which ++ sentence w)
 
 -- By what the two files come to, the returned patch's first.
 unfoldable pub by_files : Bool → List ℕ → List ℕ → Said
 by_files lines returned lent =
-    cond (is_one (found_in returned))
-    (cond (is_one (found_in lent)) (proposing lines (patch_in returned) (patch_in lent)) (said [] (ascii "lent: " ++ sentence (found_in lent))))
-    (said [] (ascii "returned: " ++ sentence (found_in returned)))
+    unless_wrong (ascii "returned: ") (found_in returned)
+    (unless_wrong (ascii "lent: ") (found_in lent) (proposing lines (patch_in returned) (patch_in lent)))
 
 -- The input: a byte, 1 where lines are wanted; the length of the returned patch's file in three bytes, low byte first; that file; the lent patch's.
 abbrev pub wants_lines : List ℕ → Bool

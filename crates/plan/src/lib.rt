@@ -2,24 +2,25 @@
 // or as lines, and for the standard error `done`; or nothing and why there is no list.
 #![tactic(auto)]
 
-ghost use Rattle.std.specs.Prelude.{◌≡◌, ◌≤◌, ◌<◌, length, get_or, replicate};
+ghost use Rattle.std.specs.Prelude.{◌≡◌, ◌<◌, get_or, replicate};
 ghost use Rattle.answers.specs.Effect.{tested};
 ghost use Rattle.streams.specs.Stream.{between};
-ghost use Rattle.fields.specs.Fields.{size};
-ghost use Rattle.text.specs.Text.{Gains};
+ghost use Rattle.fields.specs.Fields.{value_at};
+ghost use Rattle.patch.specs.Patch.{source_at};
+ghost use Rattle.text.specs.Text.{signed, Gains};
 ghost use Rattle.pairs.specs.Pairs.{pair_rows};
 ghost use Rattle.edit_lists.specs.Lists.{list_bytes};
 ghost use Rattle.edit_lists.specs.Plan.{plan};
-ghost use Rattle.edit_lists.specs.code.Left.{Part};
-ghost use Rattle.plan.specs.Files.{is_patch_dump, only_real_time, found_in, patch_in, sentence};
-ghost use Rattle.plan.specs.Said.{shown_at, parameter_line, bus_values, bus_line, change_line, change_lines, proposing, is_one, by_files, three_bytes, said_of};
-ghost use Rattle.plan.specs.code.Written.{least, room_most, PutsBoth, Says};
+ghost use Rattle.plan.specs.Files.{is_patch_dump, only_real_time, patch_in, sentence};
+ghost use Rattle.plan.specs.Said.{parameter_line, bus_values, bus_line, change_line, change_lines, proposing, by_files, three_bytes, said_of};
+ghost use Rattle.plan.specs.code.Written.{room_most, finding, PutsBoth, Says};
 
-use answers::{DONE, NO_MESSAGE, Outcome};
-use fields::{AMOUNT_AT, BytePlace, DESTINATION_AT, NAME_SIZE, SOURCE_AT};
+use answers::Outcome;
+use fields::{BytePlace, SOURCE_AT};
 use frames::END;
 use listing::MOST;
 use messages::kinds::{EditBuffer, PATCH, SinglePatch};
+use planner::parts::{Differing, Part};
 use reading::walking::Report;
 use text::Text;
 
@@ -37,10 +38,9 @@ const LONGEST: usize = 762;
 
 const WANTS_LINES: u8 = 1;
 
-// What a file comes to: its one accepted patch dump, or what else was found.
+// What a file comes to where it is not one accepted patch dump.
 #[derive(Clone, Copy)]
-pub enum Found {
-    One,
+pub enum Wrong {
     TooLong,
     NoPatch,
     NotOne(Report),
@@ -58,57 +58,40 @@ pub struct Written {
 fn is_patch_dump(outcome: Outcome) -> bool
     ensures { result ≡ is_patch_dump outcome }
 {
-    if outcome.answer != DONE {
-        return false;
-    }
-    if outcome.detail == SinglePatch::OPCODE as usize {
-        return true;
-    }
-    outcome.detail == EditBuffer::OPCODE as usize
+    let opcode = outcome.detail;
+    outcome.is_done()
+        && (opcode == SinglePatch::OPCODE as usize || opcode == EditBuffer::OPCODE as usize)
 }
 
 // Nothing but real time stands from one place up to another.
 fn only_real_time(s: &[u8], from: usize, to: usize) -> bool
     ensures { result ≡ only_real_time (between s.now from to) }
 {
-    let mut i = from;
-    while i < to {
-        if s.len() <= i {
-            return true;
-        }
-        if s[i] <= END {
-            return false;
-        }
-        i += 1;
-    }
-    true
+    s.iter().take(to).skip(from).all(|b| END < *b)
 }
 
-// What a file comes to.
-fn find_patch(s: &[u8]) -> Found
-    ensures { result ≡ found_in s.now }
+// The patch of a file that is one accepted patch dump, or what else it comes to.
+fn find_patch(s: &[u8]) -> Result<[u8; PATCH], Wrong>
+    ensures { result ≡ finding s.now }
 {
     if MOST < s.len() {
-        return Found::TooLong;
+        return Err(Wrong::TooLong);
     }
     let first = reading::walking::walk(s, 0);
-    if first.outcome.answer == NO_MESSAGE {
-        return Found::NoPatch;
+    if !first.is_found() {
+        return Err(Wrong::NoPatch);
     }
     if !is_patch_dump(first.outcome) {
-        return Found::NotOne(first);
+        return Err(Wrong::NotOne(first));
     }
     let next = reading::walking::walk(s, first.end);
-    if next.outcome.answer != NO_MESSAGE {
-        return Found::NotOne(next);
+    if next.is_found() {
+        return Err(Wrong::NotOne(next));
     }
-    if !only_real_time(s, 0, first.start) {
-        return Found::Outside;
+    if !only_real_time(s, 0, first.start) || !only_real_time(s, first.end, s.len()) {
+        return Err(Wrong::Outside);
     }
-    if !only_real_time(s, first.end, s.len()) {
-        return Found::Outside;
-    }
-    Found::One
+    Ok(patch_in(s))
 }
 
 // The patch of a file's first dump.
@@ -121,60 +104,58 @@ fn patch_in(s: &[u8]) -> [u8; PATCH]
 }
 
 // What else was found in a file, as a line.
-fn put_found(text: &mut Text, found: Found)
-    ensures { Gains (sentence found) text.old text.new }
+fn put_wrong(text: &mut Text, wrong: Wrong)
+    ensures { Gains (sentence wrong) text.old text.new }
 {
-    match found {
-        Found::One => {}
-        Found::TooLong => listing::put_too_long(text),
-        Found::NoPatch => text.put(b"no patch dump\n"),
-        Found::NotOne(report) => {
+    match wrong {
+        Wrong::TooLong => listing::put_too_long(text),
+        Wrong::NoPatch => text.put(b"no patch dump\n"),
+        Wrong::NotOne(report) => {
             text.put(b"not one accepted patch dump: ");
             listing::put_report(text, report);
         }
-        Found::Outside => text.put(b"bytes outside the patch dump\n"),
+        Wrong::Outside => text.put(b"bytes outside the patch dump\n"),
     }
 }
 
-// The value of a byte place in a patch, with its sign, and the byte behind it. The callers below name a place of a patch.
-fn put_value(text: &mut Text, p: &[u8], place: usize, behind: u8)
-    requires { (length p.now ≡ size) × (place < size) }
-    ensures { Gains (shown_at p.now place behind) text.old text.new }
+// The value of a byte at a place, with its sign, and the byte behind it.
+fn put_value(text: &mut Text, place: BytePlace, b: u8, behind: u8)
+    ensures { Gains (signed (value_at place.0 b) behind) text.old text.new }
 {
-    text.put_signed(
-        isize::from(fields::value_at(BytePlace(place as u8), p[place])),
-        behind,
-    );
+    text.put_signed(isize::from(fields::value_at(place, b)), behind);
 }
 
-// The line of a parameter: byte place, parameter, its value before and after. `put_change` has seen that the place has one.
-fn put_parameter(text: &mut Text, a: &[u8], b: &[u8], k: usize)
-    requires { (length a.now ≡ size) × (length b.now ≡ size) × (8 ≤ k) × (k < 104) }
-    ensures { Gains (parameter_line a.now b.now k) text.old text.new }
+// The line of a parameter: byte place, parameter, its value before and after. `put_change` has seen that the part is one.
+fn put_parameter(text: &mut Text, a: &[u8; PATCH], b: &[u8; PATCH], part: Part)
+    requires { part.place < source_at 0 }
+    ensures { Gains (parameter_line a.now b.now part.place) text.old text.new }
 {
-    let Some(parameter) = fields::parameter_of(BytePlace(k as u8)) else {
+    let k = part.place;
+    let place = BytePlace(k as u8);
+    let Some(parameter) = fields::parameter_of(place) else {
         return;
     };
     text.put_number(k, b' ');
     text.put(b"parameter ");
     text.put_number(parameter.0 as usize, b' ');
-    put_value(text, a, k, b' ');
-    put_value(text, b, k, b'\n');
+    put_value(text, place, a[k], b' ');
+    put_value(text, place, b[k], b'\n');
 }
 
 // Source, amount and destination of a bus, and the byte behind them.
-fn put_values(text: &mut Text, p: &[u8], bus: usize, behind: u8)
-    requires { (length p.now ≡ size) × (bus < 10) }
+fn put_values(text: &mut Text, p: &[u8; PATCH], bus: usize, behind: u8)
+    requires { bus < 10 }
     ensures { Gains (bus_values p.now bus behind) text.old text.new }
 {
-    put_value(text, p, SOURCE_AT + 3 * bus, b' ');
-    put_value(text, p, AMOUNT_AT + 3 * bus, b' ');
-    put_value(text, p, DESTINATION_AT + 3 * bus, behind);
+    let k = SOURCE_AT + 3 * bus;
+    put_value(text, BytePlace(k as u8), p[k], b' ');
+    put_value(text, BytePlace(k as u8 + 1), p[k + 1], b' ');
+    put_value(text, BytePlace(k as u8 + 2), p[k + 2], behind);
 }
 
 // The line of a bus: byte place, bus, its values before and after.
-fn put_bus(text: &mut Text, a: &[u8], b: &[u8], bus: usize)
-    requires { (length a.now ≡ size) × (length b.now ≡ size) × (bus < 10) }
+fn put_bus(text: &mut Text, a: &[u8; PATCH], b: &[u8; PATCH], bus: usize)
+    requires { bus < 10 }
     ensures { Gains (bus_line a.now b.now bus) text.old text.new }
 {
     text.put_number(SOURCE_AT + 3 * bus, b' ');
@@ -184,65 +165,43 @@ fn put_bus(text: &mut Text, a: &[u8], b: &[u8], bus: usize)
     put_values(text, b, bus, b'\n');
 }
 
-// The line of the edit at a place.
-fn put_change(text: &mut Text, a: &[u8], b: &[u8], k: usize)
-    requires { (length a.now ≡ size) × (length b.now ≡ size) × Part k }
-    ensures { Gains (change_line a.now b.now k) text.old text.new }
+// The line of the edit for a part.
+fn put_change(text: &mut Text, a: &[u8; PATCH], b: &[u8; PATCH], part: Part)
+    ensures { Gains (change_line a.now b.now part.place) text.old text.new }
 {
-    if k < SOURCE_AT {
-        put_parameter(text, a, b, k);
+    if part.place < SOURCE_AT {
+        put_parameter(text, a, b, part);
     } else {
-        put_bus(text, a, b, (k - SOURCE_AT) / 3);
+        put_bus(text, a, b, (part.place - SOURCE_AT) / 3);
     }
 }
 
 // A line for each edit.
-fn put_changes(text: &mut Text, a: &[u8], b: &[u8])
-    requires { (length a.now ≡ size) × (length b.now ≡ size) }
+fn put_changes(text: &mut Text, a: &[u8; PATCH], b: &[u8; PATCH])
     ensures { Gains (change_lines a.now b.now) text.old text.new }
 {
-    let mut k = NAME_SIZE;
-    while k < PATCH {
-        let next = k + planner::width_of(k);
-        if !pairs::same(&a[k..next], &b[k..next]) {
-            put_change(text, a, b, k);
-        }
-        k = next;
+    for part in Differing::of(a, b) {
+        put_change(text, a, b, part);
     }
 }
 
 // The list as bytes. Its caller has tested both patches.
-fn put_list(text: &mut Text, a: &[u8], b: &[u8])
+fn put_list(text: &mut Text, a: &[u8; PATCH], b: &[u8; PATCH])
     requires { (tested (pair_rows a.now b.now)).answer ≡ 0 }
     ensures { Gains (list_bytes (plan a.now b.now)) text.old text.new }
 {
     let mut list = [0u8; LONGEST];
-    let planned = planner::plan(a, b, &mut list);
-    let n = planned.detail;
-    text.put(&list[..n]);
-}
-
-// A file comes to one accepted patch dump.
-fn is_one(found: Found) -> bool
-    ensures { result ≡ is_one found }
-{
-    match found {
-        Found::One => true,
-        Found::TooLong => false,
-        Found::NoPatch => false,
-        Found::NotOne(_) => false,
-        Found::Outside => false,
+    if let Ok(size) = planner::plan(a, b, &mut list) {
+        text.put(&list[..size]);
     }
 }
 
 // The list that turns a into b, as lines or as bytes, or that their names differ; answers where the standard output's part ends.
-fn put_proposal(text: &mut Text, lines: bool, a: &[u8], b: &[u8]) -> usize
-    requires { (length a.now ≡ size) × (length b.now ≡ size) }
+fn put_proposal(text: &mut Text, lines: bool, a: &[u8; PATCH], b: &[u8; PATCH]) -> usize
     ensures { PutsBoth (proposing lines a.now b.now) text.old text.new result }
 {
     let start = text.end();
-    let pair = pairs::test_pair(a, b);
-    if pair.answer != DONE {
+    if pairs::test_pair(a, b).is_err() {
         text.put(b"names differ: no edit reaches a name\n");
         return start;
     }
@@ -261,46 +220,33 @@ fn answer_files(text: &mut Text, lines: bool, returned: &[u8], lent: &[u8]) -> u
     ensures { PutsBoth (by_files lines returned.now lent.now) text.old text.new result }
 {
     let start = text.end();
-    let first = find_patch(returned);
-    if !is_one(first) {
-        text.put(b"returned: ");
-        put_found(text, first);
-        return start;
+    match (find_patch(returned), find_patch(lent)) {
+        (Err(wrong), _) => {
+            text.put(b"returned: ");
+            put_wrong(text, wrong);
+            start
+        }
+        (Ok(_), Err(wrong)) => {
+            text.put(b"lent: ");
+            put_wrong(text, wrong);
+            start
+        }
+        (Ok(a), Ok(b)) => put_proposal(text, lines, &a, &b),
     }
-    let second = find_patch(lent);
-    if !is_one(second) {
-        text.put(b"lent: ");
-        put_found(text, second);
-        return start;
-    }
-    put_proposal(text, lines, &patch_in(returned), &patch_in(lent))
 }
 
 // A number of three bytes, low byte first.
 fn number_of(low: u8, middle: u8, high: u8) -> usize
     ensures { (result ≡ three_bytes low middle high) × (result < 16777216) }
 {
-    low as usize + (256 * middle as usize + 65536 * high as usize)
+    u32::from_le_bytes([low, middle, high, 0]) as usize
 }
 
 // A byte of the input, 0 past its end.
 fn byte_at(input: &[u8], i: usize) -> u8
     ensures { result ≡ get_or input.now i 0 }
 {
-    if input.len() <= i {
-        return 0;
-    }
-    input[i]
-}
-
-// A place in the input: its end, where it has fewer bytes.
-fn place_in(input: &[u8], at: usize) -> usize
-    ensures { result ≡ least at (length input.now) }
-{
-    if input.len() < at {
-        return input.len();
-    }
-    at
+    input.get(i).copied().unwrap_or(0)
 }
 
 // A room that takes all that can be said.
@@ -316,8 +262,8 @@ pub fn answer(input: &[u8], room: &mut [u8]) -> Written
 {
     let lines = byte_at(input, 0) == WANTS_LINES;
     let size = number_of(byte_at(input, 1), byte_at(input, 2), byte_at(input, 3));
-    let from = place_in(input, HEAD);
-    let to = place_in(input, HEAD + size);
+    let from = HEAD.min(input.len());
+    let to = (HEAD + size).min(input.len());
     let mut text = Text::new(room, 0);
     let out = answer_files(&mut text, lines, &input[from..to], &input[to..]);
     Written {

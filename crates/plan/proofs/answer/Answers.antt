@@ -14,8 +14,8 @@ pub returns : goal.returns
 returns c =
     let s = c.args.input.now in
     let n = c.number_of-size in
-    let from = c.place_in-from in
-    let to = c.place_in-to in
+    let from = c.min-from in
+    let to = c.min-to in
     let wants = ap (λ (x : ℕ). eqb x 1) c.byte_at-lines.ensures in
     let first : n.result ≡ first_length s = omega (arith, n.ensures.0, c.byte_at.ensures, c.byte_at-2.ensures, c.byte_at-3.ensures) in
     let p = c.answer_files-out in

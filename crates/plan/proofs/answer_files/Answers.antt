@@ -1,38 +1,30 @@
 -- The one file, then the other, then both patches.
-use mathlib.Core.Path.{◌≡◌, sym, ap, ◌∙◌}
-use mathlib.Core.Bool.{Bool, true, false}
+use Rattle.std.proofs.Common.{sym, ◌∙◌}
 use Rattle.text.specs.Text.{ascii}
 use Rattle.text.proofs.Puts.{gains_then}
-use Rattle.plan.specs.declared.Found.{Found}
-use Rattle.plan.specs.Said.{is_one}
-use Rattle.plan.proofs.Lines.{told}
+use Rattle.plan.proofs.Lines.{err_alone}
 use Rattle.plan.proofs.Told.{first_fails, second_fails, both_found}
 use Rattle.plan.proofs.answer_files.Goals as goal
 
--- What a file came to: one patch, or something else.
-came_to : {f g : Found} {r : Bool} (t : Bool) → f ≡ g → r ≡ is_one f → r ≡ t → is_one g ≡ t
-came_to t e o q = ap is_one (sym e) ∙ sym o ∙ q
-
-pub returns-then-not-is_one : goal.returns-then-not-is_one
+pub returns-in-Err-default : goal.returns-in-Err-default
 unfolding ascii
-returns-then-not-is_one c =
+returns-in-Err-default c =
     let k = c.args in
-    let f = c.find_patch-first in
-    let text = gains_then c.put.ensures c.put_found.ensures in
-    rw (first_fails k.lines k.returned.now k.lent.now (came_to false f.ensures c.is_one.ensures c.if-not-is_one.true)) (told c.end-start.ensures (rw f.ensures at text))
+    let i = c.in-Err-default in
+    rw (first_fails k.lines k.returned.now k.lent.now i.wrong (sym i.is-0 ∙ c.find_patch.ensures))
+    (err_alone c.end-start.ensures (gains_then c.put.ensures c.put_wrong.ensures))
 
-pub returns-then-not-is_one-2 : goal.returns-then-not-is_one-2
+pub returns-in-Ok-Err : goal.returns-in-Ok-Err
 unfolding ascii
-returns-then-not-is_one-2 c =
+returns-in-Ok-Err c =
     let k = c.args in
-    let g = c.find_patch-second in
-    let text = gains_then c.put-then-not-is_one-2.ensures c.put_found-then-not-is_one-2.ensures in
-    rw (second_fails k.lines k.returned.now k.lent.now (came_to true c.find_patch-first.ensures c.is_one.ensures c.if-not-is_one.false)
-    (came_to false g.ensures c.is_one-2.ensures c.if-not-is_one-2.true)) (told c.end-start.ensures (rw g.ensures at text))
+    let i = c.in-Ok-Err in
+    rw (second_fails k.lines k.returned.now k.lent.now _ (sym i.is-0 ∙ c.find_patch.ensures) i.wrong (sym i.is-1 ∙ c.find_patch-2.ensures))
+    (err_alone c.end-start.ensures (gains_then c.put-in-Ok-Err.ensures c.put_wrong-in-Ok-Err.ensures))
 
-pub returns : goal.returns
-returns c =
+pub returns-in-Ok-Ok : goal.returns-in-Ok-Ok
+returns-in-Ok-Ok c =
     let k = c.args in
-    rw (both_found k.lines k.returned.now k.lent.now (came_to true c.find_patch-first.ensures c.is_one.ensures c.if-not-is_one.false)
-    (came_to true c.find_patch-second.ensures c.is_one-2.ensures c.if-not-is_one-2.false))
-    (rw (c.patch_in.ensures, c.patch_in-2.ensures) at c.put_proposal.ensures)
+    let i = c.in-Ok-Ok in
+    rw (both_found k.lines k.returned.now k.lent.now i.a (sym i.is-0 ∙ c.find_patch.ensures) i.b (sym i.is-1 ∙ c.find_patch-2.ensures))
+    c.put_proposal.ensures

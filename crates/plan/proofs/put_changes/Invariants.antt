@@ -1,14 +1,11 @@
--- The loop's invariant: whoever puts the lines for what is left from the part at hand on has put all of them.
-use Prim.Native.Nat.{◌-◌}
+-- Whoever puts the lines for the parts that are left has put all of them.
 use Rattle.text.proofs.Puts.{Underway}
-use Rattle.edit_lists.proofs.Left.{Stands}
-use Rattle.plan.specs.Said.{change_lines}
-use Rattle.plan.proofs.Lines.{lines_left}
+use Rattle.planner.specs.code.Parts.{left}
+use Rattle.plan.specs.Said.{lines_for, change_lines}
 use Rattle.plan.proofs.put_changes.Given as goal
 
-abbrev pub invariant-loop-k : goal.invariant-loop-k
-invariant-loop-k l =
-    Stands l.k × Underway (change_lines l.a l.b) (lines_left l.k l.a l.b) l.initial.text l.text
-
-abbrev pub decreases-loop-k : goal.decreases-loop-k
-decreases-loop-k l = 134 - l.k
+abbrev pub invariant-loop-part : goal.invariant-loop-part
+invariant-loop-part l =
+    (goal.iterator-loop-part).can_next l.part-iterator ×
+    (goal.iterator-loop-part).is_finite l.part-iterator ×
+    Underway (change_lines l.a l.b) (lines_for l.a l.b (left l.part-iterator)) l.initial.text l.text

@@ -1,33 +1,43 @@
 -- Each return is a case of `proposing`.
-use mathlib.Core.Path.{◌≡◌, sym, ap, ◌∙◌}
+use Rattle.std.proofs.Common.{◌≡◌, sym, ap, ◌∙◌, true, false}
+use Rattle.std.specs.Prelude.{⊤, Result, Ok, Err}
+use Rattle.std.specs.Result.{is_err}
 use borrow.Author.Tests.{ne_eqb}
 use Rattle.answers.specs.declared.Outcome.{Outcome}
-use Rattle.answers.specs.Effect.{tested}
-use Rattle.pairs.specs.Pairs.{pair_rows}
+use Rattle.answers.specs.declared.Refusal.{Refusal}
+use Rattle.answers.specs.Refusals.{told_test}
+use Rattle.answers.proofs.Refusals.{never_done}
 use Rattle.text.specs.Text.{ascii}
 use Rattle.plan.specs.Said.{proposing}
-use Rattle.plan.proofs.Lines.{both, told}
-use Rattle.plan.proofs.put_proposal.Goals as goal
+use Rattle.plan.proofs.Lines.{both, err_alone}
 use Rattle.plan.proofs.put_proposal.Goals.{then-lines, else-lines}
+use Rattle.plan.proofs.put_proposal.Goals as goal
 
--- The pair's answer.
-answer_is : {o p : Outcome} → o ≡ p → o.answer ≡ p.answer
-answer_is e = ap (λ (o : Outcome). o.answer) e
+-- What the pair's test comes to.
+passed : (r : Result ⊤ Refusal) (o : Outcome) → told_test r ≡ o → is_err r ≡ false → o.answer ≡ 0
+passed (Ok u) o e z = ap (λ (p : Outcome). p.answer) (sym e)
+passed (Err x) o e z = cc
 
-pub returns-then-pair-ne-DONE : goal.returns-then-pair-ne-DONE
+refused : (r : Result ⊤ Refusal) (o : Outcome) → told_test r ≡ o → is_err r ≡ true → o.answer ≡ 0 → ⊥
+refused (Ok u) o e z h = cc
+refused (Err x) o e z h = never_done x (ap (λ (p : Outcome). p.answer) e ∙ h)
+
+pub returns-then-is_err : goal.returns-then-is_err
 unfolding proposing ascii
-returns-then-pair-ne-DONE c =
-    let t = answer_is c.test_pair-pair.ensures in
-    rw (ne_eqb _ 0 (λ z. c.if-pair-ne-DONE.true (t ∙ z))) (told c.end-start.ensures c.put.ensures)
+returns-then-is_err c =
+    let t = c.test_pair in
+    let stopped = refused t.result _ t.ensures (sym c.is_err.ensures.value ∙ c.if-is_err.true) in
+    rw (ne_eqb _ 0 stopped) (err_alone c.end-start.ensures c.put.ensures)
 
 pub put_list-requires : goal.put_list-requires
-put_list-requires c = sym (answer_is c.test_pair-pair.ensures) ∙ c.if-pair-ne-DONE.false
+put_list-requires c = let t = c.test_pair in passed t.result _ t.ensures (sym c.is_err.ensures.value ∙ c.if-is_err.false)
 
 pub returns : goal.returns
 unfolding proposing ascii
 returns c =
-    let passed : (tested (pair_rows c.args.a.now c.args.b.now)).answer ≡ 0 = sym (answer_is c.test_pair-pair.ensures) ∙ c.if-pair-ne-DONE.false in
+    let t = c.test_pair in
+    let done = passed t.result _ t.ensures (sym c.is_err.ensures.value ∙ c.if-is_err.false) in
     elim c.if-lines.branch [
-      | then-lines w ↦ rw (passed, w.if-lines.true) (both c.end-out.ensures (rw (← w.text-is) at w.put_changes.ensures) c.put-2.ensures)
-      | else-lines w ↦ rw (passed, w.if-lines.false) (both c.end-out.ensures (rw (← w.text-is) at w.put_list.ensures) c.put-2.ensures)
+      | then-lines w ↦ rw (done, w.if-lines.true) (both c.end-out.ensures (rw (← w.text-is) at w.put_changes.ensures) c.put-2.ensures)
+      | else-lines w ↦ rw (done, w.if-lines.false) (both c.end-out.ensures (rw (← w.text-is) at w.put_list.ensures) c.put-2.ensures)
     ]

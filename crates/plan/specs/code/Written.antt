@@ -1,13 +1,19 @@
 -- How the routine tells what the program writes: both texts in a lent room, one behind the other.
-use Rattle.std.specs.Prelude.{◌≡◌, cond, List, ◌++◌, ℕ, ◌+◌, ◌≤◌, ltb, length}
+use Rattle.std.specs.Prelude.{◌≡◌, List, ◌++◌, ℕ, ◌+◌, ◌≤◌, length, Result, Ok, Err}
 use Rattle.text.specs.Text.{fitting, Puts, Gains}
 use Rattle.text.specs.declared.Text.{Text}
+use Rattle.plan.specs.declared.Wrong.{Wrong}
+use Rattle.plan.specs.Files.{Found, One, Not, found_in, patch_in}
 use Rattle.plan.specs.Said.{Said}
 use Rattle.plan.specs.declared.Written.{Written}
 
--- The lesser of two numbers.
-abbrev pub least : ℕ → ℕ → ℕ
-least a n = cond (ltb n a) n a
+-- How what a file comes to is told: with its patch.
+abbrev pub told : List ℕ → Found → Result (List ℕ) Wrong
+told p One = Ok p
+told p (Not w) = Err w
+
+abbrev pub finding : List ℕ → Result (List ℕ) Wrong
+finding s = told (patch_in s) (found_in s)
 
 -- All that can be said fits into a room of so many bytes.
 abbrev pub room_most : ℕ

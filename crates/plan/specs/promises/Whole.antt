@@ -12,9 +12,8 @@ use Rattle.messages.specs.Layout.{message}
 use Rattle.pairs.specs.Pairs.{name_of, pair_rows}
 use Rattle.edit_lists.specs.Check.{checking}
 use Rattle.edit_lists.specs.promises.Shortest.{Good}
-use Rattle.plan.specs.declared.Found.TheVariants.{One}
 use Rattle.plan.specs.declared.Written.{Written}
-use Rattle.plan.specs.Files.{found_in, patch_in}
+use Rattle.plan.specs.Files.{One, found_in, patch_in}
 use Rattle.plan.specs.Said.{by_files, said_of}
 use Rattle.plan.specs.code.Written.{Says, room_most}
 

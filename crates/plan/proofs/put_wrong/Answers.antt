@@ -1,12 +1,8 @@
 -- Each return is a case of `sentence`.
 use Rattle.text.specs.Text.{ascii}
-use Rattle.text.proofs.Puts.{gains_none, gains_then}
+use Rattle.text.proofs.Puts.{gains_then}
 use Rattle.plan.specs.Files.{sentence}
-use Rattle.plan.proofs.put_found.Goals as goal
-
-pub returns-in-One : goal.returns-in-One
-unfolding sentence
-returns-in-One c = rw c.in-One.is (gains_none _)
+use Rattle.plan.proofs.put_wrong.Goals as goal
 
 pub returns-in-TooLong : goal.returns-in-TooLong
 unfolding sentence
