@@ -3,15 +3,15 @@ use mathlib.Core.Path.{◌≡◌, ap, ◌∙◌}
 use Rattle.units.specs.Units.{stepping}
 use Rattle.units.specs.code.Steps.{done_by}
 use Rattle.units.proofs.Steps.{quiet_step, kind_step, step_told}
-use Rattle.units.proofs.Unit.follow.Goals.{then-report-eq-DONE, else-report-eq-DONE}
+use Rattle.units.proofs.Unit.follow.Goals.{then-is_done, else-is_done}
 use Rattle.units.proofs.Unit.follow.Goals as goal
 
 pub returns : goal.returns
 returns c =
     let a = c.args in
     let read = c.walk_with_bytes-reading.ensures in
-    let act : done_by c.if-report-eq-DONE.act ≡ stepping a.self a.s.now a.place = elim c.if-report-eq-DONE.branch [
-      | then-report-eq-DONE w ↦ ap done_by w.act-is ∙ w.takes-act.ensures ∙ kind_step _ _ _ _ _ read w.kind_of.ensures w.if-report-eq-DONE.true
-      | else-report-eq-DONE w ↦ ap done_by w.act-is ∙ w.stays-act.ensures ∙ quiet_step _ _ _ _ read w.if-report-eq-DONE.false
+    let act : done_by c.if-is_done.act ≡ stepping a.self a.s.now a.place = elim c.if-is_done.branch [
+      | then-is_done w ↦ ap done_by w.act-is ∙ w.takes-act.ensures ∙ kind_step _ _ _ _ _ read w.kind_of.ensures w.if-is_done.true
+      | else-is_done w ↦ ap done_by w.act-is ∙ w.stays-act.ensures ∙ quiet_step _ _ _ _ read w.if-is_done.false
     ] in
     c.step.ensures ∙ step_told _ _ _ _ _ read act
