@@ -1,5 +1,5 @@
 -- A refusal is never told as done; a test that is told as its rows are answered has passed them, or is the first of them that says anything.
-use Rattle.std.proofs.Common.{◌≡◌, List, sym, ap, ◌∙◌, refl, arith}
+use Rattle.std.proofs.Common.{◌≡◌, List, sym, ap, arith}
 use Rattle.std.specs.Prelude.{ℕ}
 use Rattle.answers.specs.declared.Outcome.{Outcome}
 use Rattle.answers.specs.declared.Refusal.{Refusal}

@@ -1,7 +1,6 @@
 -- Why a call is refused, in the register's numbers.
 use Rattle.std.specs.Prelude.{ℕ, Result, Ok, Err, ⊤}
 use Rattle.answers.specs.declared.Outcome.{Outcome}
-use Rattle.answers.specs.declared.Found.{Found}
 use Rattle.answers.specs.declared.Refusal.{Refusal}
 use Rattle.answers.specs.declared.Refusal.TheVariants.{NoMessage, Cut, Interrupted, OtherMaker, OtherDevice, OtherOpcode, WrongLength, NotAllowed}
 use Rattle.answers.specs.declared.Refusal.TheVariants.{WideData, WrongSum, OutOfRange, HalfUsed, NoRoom, OtherForm, OtherName, NotAccepted, TooMany}

@@ -1,56 +1,11 @@
 // The register's numbers, and the answer of a routine, with a place or without one.
 #![tactic(auto)]
 
-ghost use Rattle.std.specs.Prelude.{◌≡◌};
+ghost use Rattle.std.specs.Prelude.{◌≡◌, eqb};
 ghost use Rattle.answers.specs.Table.{outcome, outcome_at};
 ghost use Rattle.answers.specs.Effect.{no_place};
 ghost use Rattle.answers.specs.Refusals.{outcome_by, told, told_test};
 ghost use Rattle.answers.specs.code.Numbers.{as_number};
-
-// Document 01, 'Numbers the register prints'.
-pub const DONE: u8 = 0;
-
-pub const NO_MESSAGE: u8 = 1;
-
-pub const CUT: u8 = 2;
-
-pub const INTERRUPTED: u8 = 3;
-
-pub const OTHER_MAKER: u8 = 4;
-
-pub const OTHER_DEVICE: u8 = 5;
-
-pub const OTHER_OPCODE: u8 = 6;
-
-pub const WRONG_LENGTH: u8 = 7;
-
-pub const NOT_ALLOWED: u8 = 8;
-
-pub const WIDE_DATA: u8 = 9;
-
-pub const WRONG_SUM: u8 = 10;
-
-pub const OUT_OF_RANGE: u8 = 11;
-
-pub const HALF_USED: u8 = 12;
-
-pub const NO_ROOM: u8 = 13;
-
-// 14 is withdrawn.
-
-// Document 02 (ii): a unit's file, as dumps or as stored, is not of its form.
-pub const OTHER_FORM: u8 = 15;
-
-// Document 02 (v): the two names differ; a list of edits is not accepted.
-pub const OTHER_NAME: u8 = 16;
-
-pub const NOT_ACCEPTED: u8 = 20;
-
-// Document 02 (iv): a feed with which more than 4,294,967,295 bytes would have been taken.
-pub const TOO_MANY: u8 = 21;
-
-// The greatest number of 64 bits.
-const LAST: usize = 0xFFFF_FFFF_FFFF_FFFF;
 
 // An answer and its detail; with 11 also the value that was found, with its sign, and 0 with every other answer. In this order it has
 // sixteen bytes, which two registers take.
@@ -101,7 +56,49 @@ pub enum Refusal {
     TooMany,
 }
 
-// The register's number of a refusal, with its detail and value. 14 is withdrawn.
+// Done, with a detail.
+pub fn done(detail: usize) -> Outcome
+    ensures { result ≡ outcome 0 detail }
+{
+    Outcome {
+        answer: 0,
+        value: 0,
+        detail,
+    }
+}
+
+// Refused by a number, with a detail.
+fn refused(answer: u8, detail: usize) -> Outcome
+    ensures { result ≡ outcome answer detail }
+{
+    Outcome {
+        answer,
+        value: 0,
+        detail,
+    }
+}
+
+// Refused by 11, with the place and the value found there.
+fn out_of_range(found: Found) -> Outcome
+    ensures { result ≡ outcome_at 11 found.place found.value }
+{
+    Outcome {
+        answer: 11,
+        value: found.value,
+        detail: found.place,
+    }
+}
+
+impl Outcome {
+    // It refuses nothing.
+    pub fn is_done(self) -> bool
+        ensures { result ≡ eqb self.answer 0 }
+    {
+        self.answer == 0
+    }
+}
+
+// The register's number of a refusal, with its detail and value: the numbers stand here alone. 14 is withdrawn.
 impl From<Refusal> for Outcome {
     ghost from_gives = { λ r o. o ≡ outcome_by r };
 
@@ -117,7 +114,7 @@ impl From<Refusal> for Outcome {
             Refusal::NotAllowed => refused(8, 0),
             Refusal::WideData(index) => refused(9, index),
             Refusal::WrongSum => refused(10, 0),
-            Refusal::OutOfRange(found) => out_of_range(found.place, found.value),
+            Refusal::OutOfRange(found) => out_of_range(found),
             Refusal::HalfUsed(bus) => refused(12, bus),
             Refusal::NoRoom => refused(13, 0),
             Refusal::OtherForm => refused(15, 0),
@@ -152,39 +149,6 @@ impl From<Result<(), Refusal>> for Outcome {
     }
 }
 
-// Done, with a detail.
-pub fn done(detail: usize) -> Outcome
-    ensures { result ≡ outcome 0 detail }
-{
-    Outcome {
-        answer: DONE,
-        value: 0,
-        detail,
-    }
-}
-
-// Refused by a number, with a detail.
-pub fn refused(answer: u8, detail: usize) -> Outcome
-    ensures { result ≡ outcome answer detail }
-{
-    Outcome {
-        answer,
-        value: 0,
-        detail,
-    }
-}
-
-// Refused by 11, with the place and the value found there.
-pub fn out_of_range(place: usize, value: i16) -> Outcome
-    ensures { result ≡ outcome_at 11 place value }
-{
-    Outcome {
-        answer: OUT_OF_RANGE,
-        value,
-        detail: place,
-    }
-}
-
 // An outcome that is about no place.
 pub fn no_place(outcome: Outcome) -> Placed
     ensures { result ≡ no_place outcome }
@@ -196,9 +160,5 @@ pub fn no_place(outcome: Outcome) -> Placed
 pub fn as_number(value: i16) -> usize
     ensures { result ≡ as_number value }
 {
-    if value < 0 {
-        let size = (0 - value as i32) as usize;
-        return LAST - size + 1;
-    }
-    value as usize
+    isize::from(value).cast_unsigned()
 }

@@ -14,8 +14,7 @@ use Rattle.messages.specs.Kinds.{master}
 use Rattle.messages.specs.Judge.{judge}
 use Rattle.messages.proofs.Accepted.{Accepted, accepted}
 use Rattle.messages.proofs.Numbers.{refused_number}
-use Rattle.judging.specs.declared.Judged.{Judged}
-use Rattle.judging.specs.code.Judged.{judged, recorded_as}
+use Rattle.judging.specs.code.Judged.{Judged, judged, recorded_as}
 use Rattle.judging.proofs.Records.{packed, packed_length}
 use Rattle.cable.specs.Cable.{room, cleared}
 use Rattle.cable.specs.code.Steps.{size_told}

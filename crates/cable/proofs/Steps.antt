@@ -18,14 +18,13 @@ use Rattle.streams.specs.code.Scan.{State, outside, inside}
 use Rattle.frames.specs.declared.Span.{Span}
 use Rattle.frames.specs.code.Extent.{ahead, span_of}
 use Rattle.frames.proofs.Extent.{ahead_within}
-use Rattle.frames.proofs.Feeding.{span_closed, span_broken, fed_cut, fed_closed, fed_broken, fed_none, fed_found}
+use Rattle.frames.proofs.Feeding.{fed_cut, fed_closed, fed_broken, fed_none, fed_found}
 use Rattle.messages.specs.Judge.{judge}
 use Rattle.messages.proofs.Long.{judge_kept}
-use Rattle.judging.specs.declared.Judged.{Judged}
-use Rattle.judging.specs.declared.Heard.{Heard}
-use Rattle.judging.specs.code.Judged.{refused_by, recorded_as}
-use Rattle.judging.specs.code.Heard.{verdict_from, recorded_from}
-use Rattle.judging.proofs.Spans.{verdict_ended, verdict_judged}
+use Rattle.frames.specs.declared.Ending.TheVariants.{Whole, Interrupted, Cut}
+use Rattle.judging.specs.code.Judged.{Judged, refused_by, recorded_as}
+use Rattle.judging.specs.code.Heard.{Heard, verdict_from, recorded_from}
+use Rattle.judging.proofs.Spans.{verdict_cut, verdict_interrupted, verdict_judged}
 use Rattle.cable.specs.declared.Cable.{Cable}
 use Rattle.cable.specs.declared.Fed.{Fed}
 use Rattle.cable.specs.declared.Step.{Step}
@@ -63,25 +62,25 @@ module _ (c : Cable) (i : c.inside ≡ true) (o : c.over ≡ false) (t : List �
   by_taken : (u : Taken) → taken judge c.taken (its c) t ≡ u → goes c t ≡ step_by c.bytes c.taken u
   by_taken u q = goes_inside c t i ∙ rw (held_inside c i, q)
 
-  pub follow_broken : (b : List ℕ) (j : Judged) → b ≡ cleared → j ≡ refused_by (outcome 3 0) → s.ending ≡ 3
+  pub follow_broken : (b : List ℕ) (j : Judged) → b ≡ cleared → j ≡ refused_by (outcome 3 0) → s.ending ≡ Interrupted
       → Leaves (goes c t) (closed_at b j (c.taken + s.length)) (reported j c.start (c.taken + s.length) (heard + s.noise) s.length)
   follow_broken b j eb ej z =
-      leaves_as _ _ _ _ (by_taken _ (fed_broken judge t s e c.taken c.start before heard (λ y. omega arith) (λ y. omega arith)))
+      leaves_as _ _ _ _ (by_taken _ (fed_broken judge t s e c.taken c.start before heard z))
       (ended_step c.bytes c.taken s.length c.start (heard + s.noise) (refused (outcome 3 0)) (known_refused 3 (λ y. omega arith)) b j
       (record { result = ej; lent = eb }) (c.taken + s.length) refl)
 
-  pub follow_open : s.ending ≡ 2
+  pub follow_open : s.ending ≡ Cut
       → Leaves (goes c t) (record (grown c (take s.length t)) { noise = heard + s.noise; taken = c.taken + s.length }) (no_report 0 0 s.length)
   follow_open z =
       leaves_as _ _ _ _ (by_taken _ (fed_cut judge t s e c.taken c.start before heard z)) (record { state = rw (i, o); fed = refl })
 
   pub follow_closed : (b : List ℕ) (j : Judged) → (let k = grown c (take s.length t) in Gives (recorded_as (judge (framed (take k.count k.bytes))) cleared) j b)
-      → (s.ending ≡ 3 → ⊥) → (s.ending ≡ 2 → ⊥)
+      → s.ending ≡ Whole
       → Leaves (goes c t) (closed_at b j (c.taken + s.length + 1)) (reported j c.start (c.taken + s.length + 1) (heard + s.noise) (s.length + 1))
-  follow_closed b j g z y =
+  follow_closed b j g z =
       let end : c.taken + s.length + 1 ≡ c.taken + (s.length + 1) = omega arith in
       let same : judge (framed (take room content)) ≡ judge (framed content) = judge_kept room (omega arith) content in
-      leaves_as _ _ _ _ (by_taken _ (fed_closed judge t s e c.taken c.start before heard (span_closed judge t s e z y)))
+      leaves_as _ _ _ _ (by_taken _ (fed_closed judge t s e c.taken c.start before heard z))
       (rw end
       (ended_step c.bytes c.taken (s.length + 1) c.start (heard + s.noise) (judge (framed content)) (known_judge content) b j
       (rw (kept_content c content, same) at g) (c.taken + (s.length + 1)) refl))
@@ -126,17 +125,16 @@ module _ (c : Cable) (i : c.inside ≡ false) (s : List ℕ) (a : ℕ) (ea : a �
           let same = rw (to_end (a + 1) s) at q in
           goes_outside c s i ∙ rw (found, same)
 
-      pub seek_broken : (x.span.ending ≡ 2 → ⊥) → (x.span.ending ≡ 0 → ⊥)
+      pub seek_broken : x.span.ending ≡ Interrupted
           → Leaves (goes c s) (closed_at b x.judged e) (reported x.judged (c.taken + a) e x.span.noise n)
-      seek_broken u v =
-          let three : x.span.ending ≡ 3 = span_broken judge rest x.span its_span u v in
-          let verdict : verdict_from rest ≡ refused (outcome 3 0) = verdict_ended rest x.span its_span v ∙ rw three in
-          leaves_as _ _ _ _ (by_rest _ _ _ (fed_broken judge rest x.span its_span (c.taken + a + 1) (c.taken + a) [] 0 u v))
+      seek_broken z =
+          let verdict : verdict_from rest ≡ refused (outcome 3 0) = verdict_interrupted rest x.span its_span z in
+          leaves_as _ _ _ _ (by_rest _ _ _ (fed_broken judge rest x.span its_span (c.taken + a + 1) (c.taken + a) [] 0 z))
           (rw zero-add
           (ended_step cleared c.taken n (c.taken + a) x.span.noise (refused (outcome 3 0)) (known_refused 3 (λ y. omega arith)) b x.judged
           (rw verdict at its_record) e (omega arith)))
 
-      pub seek_closed : x.span.ending ≡ 0
+      pub seek_closed : x.span.ending ≡ Whole
           → Leaves (goes c s) (closed_at b x.judged (e + 1)) (reported x.judged (c.taken + a) (e + 1) x.span.noise (n + 1))
       seek_closed z =
           let end : c.taken + a + 1 + (x.span.length + 1) ≡ e + 1 = omega arith in
@@ -148,15 +146,15 @@ module _ (c : Cable) (i : c.inside ≡ false) (s : List ℕ) (a : ℕ) (ea : a �
           (rw (verdict_judged rest x.span its_span z) at its_record) (e + 1) (omega arith)))
 
       -- Cut, the room is as it was.
-      seek_cleared : x.span.ending ≡ 2 → b ≡ cleared
+      seek_cleared : x.span.ending ≡ Cut → b ≡ cleared
       seek_cleared z =
-          let verdict = verdict_ended rest x.span its_span (λ y. omega arith) in
+          let verdict = verdict_cut rest x.span its_span z in
           (rw verdict at its_record).lent
 
       abbrev begun : Cable
       begun = record { bytes = b; inside = true; over = false; count = 0; start = c.taken + a; noise = x.span.noise; taken = e }
 
-      pub seek_open : x.span.ending ≡ 2 → Leaves (goes c s) (grown begun (take x.span.length rest)) (no_report 0 0 n)
+      pub seek_open : x.span.ending ≡ Cut → Leaves (goes c s) (grown begun (take x.span.length rest)) (no_report 0 0 n)
       seek_open z =
           let end : c.taken + n ≡ e = omega arith in
           leaves_as _ _ _ _ (by_rest _ _ _ (fed_cut judge rest x.span its_span (c.taken + a + 1) (c.taken + a) [] 0 z))

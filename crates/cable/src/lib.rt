@@ -5,15 +5,16 @@
 pub mod room;
 
 ghost use Rattle.std.specs.Prelude.{◌≡◌, true, false, [], ◌+◌, ◌≤◌, length};
-ghost use Rattle.answers.specs.Table.{outcome};
+ghost use Rattle.answers.specs.Refusals.{told_test};
 ghost use Rattle.streams.specs.Bytes.{real_time_in};
-ghost use Rattle.judging.specs.code.Judged.{refused_by};
-ghost use Rattle.cable.specs.Cable.{limit, held_by, resting, fresh_record, no_report, goes, feeding, last_told, ending, Leaves};
-ghost use Rattle.cable.specs.code.Steps.{size_told, reported, closing, grown};
+ghost use Rattle.judging.specs.code.Judged.{told_judged};
+ghost use Rattle.cable.specs.Cable.{limit, held_by, resting, fresh_record, goes, feeding, last_told, ending, Leaves};
+ghost use Rattle.cable.specs.code.Steps.{size_told, unreported, reported, closing, grown};
 
 use crate::room::append;
-use answers::{CUT, DONE, INTERRUPTED, NO_MESSAGE, Outcome, TOO_MANY};
-use judging::Judged;
+use answers::Refusal;
+use frames::Ending;
+use judging::{Accepted, bytes_of, outcome_of};
 use messages::kinds::{MasterParameters, kind_of};
 use reading::recording::Reading;
 use reading::walking::Report;
@@ -56,37 +57,27 @@ pub struct Step {
     pub fed: Fed,
 }
 
-// What a message comes to that was interrupted or cut.
-fn refused(answer: u8) -> Judged
-    ensures { result ≡ refused_by (outcome answer 0) }
+// How many packed bytes come with what a message comes to.
+fn size_told(judged: Result<Accepted, Refusal>) -> usize
+    ensures { result ≡ size_told (told_judged judged).outcome }
 {
-    Judged {
-        outcome: answers::refused(answer, 0),
-        bytes: [0; 4],
+    match judged {
+        Ok(accepted) => kind_of(accepted.opcode).packed_size(),
+        Err(_) => 0,
     }
-}
-
-// How many packed bytes come with an outcome.
-fn size_told(outcome: Outcome) -> usize
-    ensures { result ≡ size_told outcome }
-{
-    if outcome.answer != DONE {
-        return 0;
-    }
-    kind_of((outcome.detail % 256) as u8).packed_size()
 }
 
 impl Fed {
     // What a call tells where no message ended with it.
-    fn no_report(place: usize, answer: u8, taken: usize) -> Fed
-        ensures { result ≡ no_report place answer taken }
+    fn no_report(place: usize, answer: Result<(), Refusal>, taken: usize) -> Fed
+        ensures { result ≡ unreported place (told_test answer) taken }
     {
         Fed {
             reading: Reading {
                 report: Report {
                     start: place,
                     end: place,
-                    outcome: answers::refused(answer, 0),
+                    outcome: answer.into(),
                     noise: 0,
                 },
                 bytes: [0; 4],
@@ -97,19 +88,24 @@ impl Fed {
     }
 
     // What a call tells with which a message ended.
-    fn report(judged: Judged, start: usize, end: usize, noise: usize, taken: usize) -> Fed
-        ensures { result ≡ reported judged start end noise taken }
+    fn report(
+        judged: Result<Accepted, Refusal>,
+        start: usize,
+        end: usize,
+        noise: usize,
+        taken: usize,
+    ) -> Fed
+        ensures { result ≡ reported (told_judged judged) start end noise taken }
     {
-        let bytes = judged.bytes;
         Fed {
             reading: Reading {
                 report: Report {
                     start,
                     end,
-                    outcome: judged.outcome,
+                    outcome: outcome_of(judged),
                     noise,
                 },
-                bytes,
+                bytes: bytes_of(judged),
             },
             taken,
             ended: true,
@@ -144,13 +140,13 @@ impl Cable {
     }
 
     // The message has ended at `end`, its packed bytes stand in the room: its report, told by a call that took `taken` bytes.
-    fn ended(&mut self, judged: Judged, end: usize, taken: usize) -> Fed
-        ensures { Leaves (closing self.old judged end taken) self.new result }
+    fn ended(&mut self, judged: Result<Accepted, Refusal>, end: usize, taken: usize) -> Fed
+        ensures { Leaves (closing self.old (told_judged judged) end taken) self.new result }
     {
         let fed = Fed::report(judged, self.start, end, self.noise, taken);
         self.inside = false;
         self.over = false;
-        self.count = size_told(judged.outcome);
+        self.count = size_told(judged);
         self.start = 0;
         self.noise = 0;
         self.taken = end;
@@ -169,19 +165,24 @@ impl Cable {
         let n = span.length;
         let end = self.taken + n;
         self.noise = self.noise.min(self.taken) + span.noise;
-        if span.ending == INTERRUPTED {
-            self.bytes = [0; ROOM];
-            return self.ended(refused(INTERRUPTED), end, n);
+        match span.ending {
+            Ending::Interrupted => {
+                self.bytes = [0; ROOM];
+                self.ended(Err(Refusal::Interrupted), end, n)
+            }
+            Ending::Cut => {
+                self.append(&input[..n], span.noise);
+                self.taken = end;
+                Fed::no_report(0, Ok(()), n)
+            }
+            Ending::Whole => {
+                self.append(&input[..n], span.noise);
+                let mut packed = [0; ROOM];
+                let judged = judging::record_kept(&self.bytes[..self.count], &mut packed);
+                self.bytes = packed;
+                self.ended(judged, end + 1, n + 1)
+            }
         }
-        self.append(&input[..n], span.noise);
-        if span.ending == CUT {
-            self.taken = end;
-            return Fed::no_report(0, DONE, n);
-        }
-        let mut packed = [0; ROOM];
-        let judged = judging::record_kept(&self.bytes[..self.count], &mut packed);
-        self.bytes = packed;
-        self.ended(judged, end + 1, n + 1)
     }
 
     // Outside a message: on to the end of the next one, or all of the input. A message that stands there whole is read where it stands.
@@ -196,7 +197,7 @@ impl Cable {
         let start = self.taken + i;
         *self = Cable::at_rest(start, false);
         if input.len() <= i {
-            return Fed::no_report(0, DONE, i);
+            return Fed::no_report(0, Ok(()), i);
         }
         let rest = &input[i + 1..];
         let heard = judging::record_from(rest, &mut self.bytes);
@@ -205,16 +206,16 @@ impl Cable {
         let end = start + 1 + span.length;
         self.start = start;
         self.noise = span.noise;
-        if span.ending == CUT {
-            self.inside = true;
-            self.taken = end;
-            self.append(&rest[..span.length], span.noise);
-            return Fed::no_report(0, DONE, n);
+        match span.ending {
+            Ending::Cut => {
+                self.inside = true;
+                self.taken = end;
+                self.append(&rest[..span.length], span.noise);
+                Fed::no_report(0, Ok(()), n)
+            }
+            Ending::Whole => self.ended(heard.judged, end + 1, n + 1),
+            Ending::Interrupted => self.ended(heard.judged, end, n),
         }
-        if span.ending == DONE {
-            return self.ended(heard.judged, end + 1, n + 1);
-        }
-        self.ended(heard.judged, end, n)
     }
 
     // What a feed makes of a record: 1 behind the end, 21 where the bytes would be too many, and then nothing changes.
@@ -223,10 +224,10 @@ impl Cable {
         ensures { Leaves (feeding self.old input.now) self.new result }
     {
         if self.over {
-            return Fed::no_report(self.taken, NO_MESSAGE, 0);
+            return Fed::no_report(self.taken, Err(Refusal::NoMessage), 0);
         }
         if LIMIT < self.taken.saturating_add(input.len()) {
-            return Fed::no_report(0, TOO_MANY, 0);
+            return Fed::no_report(0, Err(Refusal::TooMany), 0);
         }
         if self.inside {
             return self.follow(input);
@@ -240,14 +241,14 @@ impl Cable {
     {
         if self.inside {
             return Fed::report(
-                refused(CUT),
+                Err(Refusal::Cut),
                 self.start,
                 self.taken,
                 self.noise.min(self.taken),
                 0,
             );
         }
-        Fed::no_report(self.taken, NO_MESSAGE, 0)
+        Fed::no_report(self.taken, Err(Refusal::NoMessage), 0)
     }
 
     // What the declared end makes of a record; behind it nothing changes.
@@ -256,7 +257,7 @@ impl Cable {
         ensures { Leaves (ending self.old) self.new result }
     {
         if self.over {
-            return Fed::no_report(self.taken, NO_MESSAGE, 0);
+            return Fed::no_report(self.taken, Err(Refusal::NoMessage), 0);
         }
         let fed = self.last();
         *self = Cable::at_rest(self.taken, true);

@@ -29,7 +29,8 @@ use Rattle.edits.specs.promises.Done.{EditDone, BusDone}
 use Rattle.edits.proofs.Tests.{rows_at, rows_nowhere, edit_refusals, bus_refusals, value_inside, bus_number, bus_amount, bus_bytes, bus_whole}
 
 -- Rows of refusals and the patch's behind them that change a patch with answer 0 come to `done`.
-answered_done : (rows : List Row) (new p : List ℕ) → Refusals rows → (changed 0 new p (first (rows ++ patch_rows p) (done 0 [] []))).result.answer ≡ 0
+answered_done : (rows : List Row) (new p : List ℕ) → Refusals rows
+    → (changed 0 new p (first (rows ++ patch_rows p) (done 0 [] []))).result.answer ≡ 0
     → first (rows ++ patch_rows p) (done 0 [] []) ≡ done 0 [] []
 answered_done rows new p a e =
     let all = both_refusals rows (patch_rows p) a (patch_refusals p) in
@@ -117,7 +118,8 @@ module _ (b s a d : ℕ) (p : List ℕ) (h : b ≤ 9) (l : length p ≡ 134) whe
   with_others : (i : ℕ) → (i ≡ 104 + 3 * b → ⊥) → (i ≡ 105 + 3 * b → ⊥) → (i ≡ 106 + 3 * b → ⊥) → get_or (with_bus b s a d p) i 0 ≡ get_or p i 0
   unfolding with_bus
   with_others i n₀ n₁ n₂ =
-      get_or-set_other two (106 + 3 * b) i d 0 n₂ ∙ get_or-set_other one (105 + 3 * b) i (extended a) 0 n₁ ∙ get_or-set_other p (104 + 3 * b) i s 0 n₀
+      get_or-set_other two (106 + 3 * b) i d 0 n₂ ∙ get_or-set_other one (105 + 3 * b) i (extended a) 0 n₁
+      ∙ get_or-set_other p (104 + 3 * b) i s 0 n₀
 
   with_source : get_or (with_bus b s a d p) (104 + 3 * b) 0 ≡ s
   unfolding with_bus
@@ -160,7 +162,7 @@ module _ (b s a d : ℕ) (p : List ℕ) (h : b ≤ 9) (l : length p ≡ 134) whe
       let e₁ = out_set fields 0 (105 + 3 * b) (extended a) one e₀ (subst (λ (k : ℕ). in_range k (extended a) ≡ true) k₁ in₁.0) in
       out_set fields 0 (106 + 3 * b) d two e₁ (subst (λ (k : ℕ). in_range k d ≡ true) k₂ in₂.0)
 
-pub bus_stored : (b s a d : ℕ) (p : List ℕ) → first (bus_rows b s a d ++ patch_rows p) (done 0 [] []) ≡ done 0 [] []
+bus_stored : (b s a d : ℕ) (p : List ℕ) → first (bus_rows b s a d ++ patch_rows p) (done 0 [] []) ≡ done 0 [] []
     → applying_bus b s a d p ≡ record { result = outcome 0 0; lent = with_bus b s a d p }
 unfolding applying_bus
 bus_stored b s a d p e = ap (changed 0 (with_bus b s a d p) p) e

@@ -69,7 +69,7 @@ module _ (p : List ℕ) (s : Silent (patch_rows p)) where
   bus_stored_applied b c a d = ap (changed 0 (with_bus b c a d p) p) (quiet (bus_rows b c a d))
 
 -- The three bytes of a bus, by the rows of bus 0: all buses have the same ranges.
-pub bus_out : (b s a d : ℕ) → b ≤ 9 → out_from fields (104 + 3 * b) (s ∷ a ∷ d ∷ []) ≡ further (104 + 3 * b) (out_from bus_table 0 (s ∷ a ∷ d ∷ []))
+bus_out : (b s a d : ℕ) → b ≤ 9 → out_from fields (104 + 3 * b) (s ∷ a ∷ d ∷ []) ≡ further (104 + 3 * b) (out_from bus_table 0 (s ∷ a ∷ d ∷ []))
 bus_out b s a d h =
     let here : 104 + 3 * b + 0 ≡ 104 + 3 * b = omega arith in
     rw here at (out_further fields bus_table (104 + 3 * b) 0 (s ∷ a ∷ d ∷ []) (λ i l. bus_rows_hold b h i (omega arith)))
@@ -80,11 +80,7 @@ pub bus_rows_at : (b s a d : ℕ) (o : Option Found) → b ≤ 9 → a ≤ 127 �
 unfolding bus_rows
 bus_rows_at b s a d o h l e = rw (le-ltb 9 b h, le-ltb 127 a l, bus_out b s (extended a) d h, e) refl
 
--- The rows of an edit are refusals: of a value at its place, of a remote edit, of a matrix modulation edit.
-pub value_refusals : (k n v : ℕ) → Refusals (value_rows k n v)
-unfolding value_rows
-value_refusals k n v = omega arith
-
+-- The rows of an edit are refusals.
 pub edit_refusals : (n v : ℕ) → Refusals (edit_rows n v)
 unfolding edit_rows
 edit_refusals n v = omega arith

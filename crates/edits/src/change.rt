@@ -30,7 +30,8 @@ impl<const N: usize> Change<N> {
 
     // Stores them, if the patch passes its own tests: 7, 11 and 12.
     pub fn apply(self, p: &mut [u8]) -> Result<(), Refusal>
-        ensures { Gives (changed 0 (sets p.old self.entry.at self.entry.bytes) p.old (first (patch_rows p.old) (done 0 [] []))) (told_test result) p.new }
+        ensures { Gives (changed 0 (sets p.old self.entry.at self.entry.bytes) p.old (first (patch_rows p.old) (done 0 [] [])))
+            (told_test result) p.new }
     {
         patch::test(p)?;
         self.put(p);

@@ -58,7 +58,8 @@ fn stored_for(parameter: Parameter, v: u8) -> u8
 impl Remote {
     // Its byte as it is stored: refused with 8, then with 11, its field's place and the value that it would store.
     fn change(self) -> Result<Change<1>, Refusal>
-        ensures { Judged (edit_rows self.parameter.0 self.value) (with_byte (place_of self.parameter.0) (stored_for self.parameter.0 self.value)) result }
+        ensures { Judged (edit_rows self.parameter.0 self.value)
+            (with_byte (place_of self.parameter.0) (stored_for self.parameter.0 self.value)) result }
     {
         let place = fields::place_of(self.parameter).ok_or(Refusal::NotAllowed)?;
         if 127 < self.value {
@@ -108,7 +109,8 @@ impl Matrix {
     // The three bytes of its bus as they are stored: refused with 8, then with 11, the lowest of their places and the value that it would
     // store, then with 12 and its bus. Every bus has the same ranges.
     fn change(self) -> Result<Change<3>, Refusal>
-        ensures { Judged (bus_rows self.bus self.source self.amount self.destination) (with_bus self.bus self.source self.amount self.destination) result }
+        ensures { Judged (bus_rows self.bus self.source self.amount self.destination)
+            (with_bus self.bus self.source self.amount self.destination) result }
     {
         if LAST_BUS < self.bus {
             return Err(Refusal::NotAllowed);

@@ -25,15 +25,15 @@ ghost use Rattle.units.specs.Units.{meant_for};
 ghost use Rattle.units.specs.code.Steps.{steps};
 ghost use Rattle.writing.specs.Writing.{writing, writing_bank};
 
-use answers::Outcome;
+use answers::{Outcome, Placed};
 use cable::{Cable, Fed};
+use edits::{Matrix, Remote};
 use fields::{BytePlace, Parameter, Range};
 use patch::Held;
 use reading::listing::Listed;
 use reading::recording::Reading;
 use reading::walking::Report;
 use units::{Step, Unit};
-use writing::BankOutcome;
 
 // A byte that no place and no parameter is.
 const NONE: u8 = 255;
@@ -95,13 +95,7 @@ pub extern "C" fn matrix_cable_end(state: &mut Cable) -> Fed
 pub extern "C" fn matrix_test_patch(p: &[u8]) -> Outcome
     ensures { result ≡ tested (patch_rows p.now) }
 {
-    // Field by field, so that the answer goes by a register and not through memory; so below.
-    let tested = patch::test(p);
-    Outcome {
-        answer: tested.answer,
-        value: tested.value,
-        detail: tested.detail,
-    }
+    patch::test(p).into()
 }
 
 // The test of a split.
@@ -109,12 +103,7 @@ pub extern "C" fn matrix_test_patch(p: &[u8]) -> Outcome
 pub extern "C" fn matrix_test_split(p: &[u8]) -> Outcome
     ensures { result ≡ tested (split_rows p.now) }
 {
-    let tested = splits::test(p);
-    Outcome {
-        answer: tested.answer,
-        value: tested.value,
-        detail: tested.detail,
-    }
+    splits::test(p).into()
 }
 
 // The byte place of a parameter, 255 where it has none.
@@ -144,7 +133,7 @@ pub extern "C" fn matrix_parameter_of(place: u8) -> u8
 pub extern "C" fn matrix_range_of(parameter: u8) -> Range
     ensures { result ≡ ranging parameter }
 {
-    fields::range_of(Parameter(parameter))
+    fields::range_of(Parameter(parameter)).into()
 }
 
 // The value of a parameter in a patch.
@@ -152,7 +141,7 @@ pub extern "C" fn matrix_range_of(parameter: u8) -> Range
 pub extern "C" fn matrix_value_of(p: &[u8], parameter: u8) -> Held
     ensures { result ≡ holding parameter p.now }
 {
-    patch::value_of(p, Parameter(parameter))
+    patch::value_of(p, Parameter(parameter)).into()
 }
 
 // Sets the name of a patch.
@@ -160,7 +149,7 @@ pub extern "C" fn matrix_value_of(p: &[u8], parameter: u8) -> Held
 pub extern "C" fn matrix_set_name(p: &mut [u8], text: &[u8]) -> Outcome
     ensures { Gives (naming p.old text.now) result p.new }
 {
-    names::set_name(p, text)
+    names::set_name(p, text).into()
 }
 
 // Writes the eight characters of a patch's name.
@@ -168,7 +157,7 @@ pub extern "C" fn matrix_set_name(p: &mut [u8], text: &[u8]) -> Outcome
 pub extern "C" fn matrix_show_name(p: &[u8], out: &mut [u8]) -> Outcome
     ensures { Gives (showing p.now out.old) result out.new }
 {
-    names::show_name(p, out)
+    names::show_name(p, out).into()
 }
 
 // Applies a remote edit to a patch.
@@ -176,12 +165,11 @@ pub extern "C" fn matrix_show_name(p: &[u8], out: &mut [u8]) -> Outcome
 pub extern "C" fn matrix_apply_edit(p: &mut [u8], parameter: u8, value: u8) -> Outcome
     ensures { Gives (applying parameter value p.old) result p.new }
 {
-    let edited = edits::apply_edit(p, Parameter(parameter), value);
-    Outcome {
-        answer: edited.answer,
-        value: edited.value,
-        detail: edited.detail,
-    }
+    let edit = Remote {
+        parameter: Parameter(parameter),
+        value,
+    };
+    edit.apply(p).into()
 }
 
 // Applies a matrix modulation edit to a patch.
@@ -195,12 +183,13 @@ pub extern "C" fn matrix_apply_bus_edit(
 ) -> Outcome
     ensures { Gives (applying_bus bus source amount destination p.old) result p.new }
 {
-    let edited = edits::apply_bus_edit(p, bus, source, amount, destination);
-    Outcome {
-        answer: edited.answer,
-        value: edited.value,
-        detail: edited.detail,
-    }
+    let edit = Matrix {
+        bus,
+        source,
+        amount,
+        destination,
+    };
+    edit.apply(p).into()
 }
 
 // Writes a numbered patch.
@@ -208,7 +197,7 @@ pub extern "C" fn matrix_apply_bus_edit(
 pub extern "C" fn matrix_write_patch(number: u8, p: &[u8], out: &mut [u8]) -> Outcome
     ensures { Gives (writing (of_dump single_patch) (number ∷ []) p.now out.old) result out.new }
 {
-    writing::write_patch(number, p, out)
+    writing::write_patch(number, p, out).into()
 }
 
 // Writes a numbered split.
@@ -216,7 +205,7 @@ pub extern "C" fn matrix_write_patch(number: u8, p: &[u8], out: &mut [u8]) -> Ou
 pub extern "C" fn matrix_write_split(number: u8, p: &[u8], out: &mut [u8]) -> Outcome
     ensures { Gives (writing (of_dump split_patch) (number ∷ []) p.now out.old) result out.new }
 {
-    writing::write_split(number, p, out)
+    writing::write_split(number, p, out).into()
 }
 
 // Writes a patch to the edit buffer.
@@ -224,7 +213,7 @@ pub extern "C" fn matrix_write_split(number: u8, p: &[u8], out: &mut [u8]) -> Ou
 pub extern "C" fn matrix_write_edit_buffer(p: &[u8], out: &mut [u8]) -> Outcome
     ensures { Gives (writing (of_dump edit_buffer) [] p.now out.old) result out.new }
 {
-    writing::write_edit_buffer(p, out)
+    writing::write_edit_buffer(p, out).into()
 }
 
 // Writes master parameters.
@@ -232,7 +221,7 @@ pub extern "C" fn matrix_write_edit_buffer(p: &[u8], out: &mut [u8]) -> Outcome
 pub extern "C" fn matrix_write_master(m: &[u8], out: &mut [u8]) -> Outcome
     ensures { Gives (writing (of_dump master_parameters) [] m.now out.old) result out.new }
 {
-    writing::write_master(m, out)
+    writing::write_master(m, out).into()
 }
 
 // Writes a remote edit.
@@ -240,7 +229,7 @@ pub extern "C" fn matrix_write_master(m: &[u8], out: &mut [u8]) -> Outcome
 pub extern "C" fn matrix_write_edit(parameter: u8, value: u8, out: &mut [u8]) -> Outcome
     ensures { Gives (writing (of_short remote_edit) (parameter ∷ value ∷ []) [] out.old) result out.new }
 {
-    writing::write_edit(Parameter(parameter), value, out)
+    writing::write_edit(Parameter(parameter), value, out).into()
 }
 
 // Writes a matrix modulation edit.
@@ -254,7 +243,7 @@ pub extern "C" fn matrix_write_bus_edit(
 ) -> Outcome
     ensures { Gives (writing (of_short bus_edit) (bus ∷ source ∷ amount ∷ destination ∷ []) [] out.old) result out.new }
 {
-    writing::write_bus_edit(bus, source, amount, destination, out)
+    writing::write_bus_edit(bus, source, amount, destination, out).into()
 }
 
 // Writes a request for data.
@@ -262,7 +251,7 @@ pub extern "C" fn matrix_write_bus_edit(
 pub extern "C" fn matrix_write_request_data(kind: u8, number: u8, out: &mut [u8]) -> Outcome
     ensures { Gives (writing (of_short request_data) (kind ∷ number ∷ []) [] out.old) result out.new }
 {
-    writing::write_request_data(kind, number, out)
+    writing::write_request_data(kind, number, out).into()
 }
 
 // Writes group mode.
@@ -270,7 +259,7 @@ pub extern "C" fn matrix_write_request_data(kind: u8, number: u8, out: &mut [u8]
 pub extern "C" fn matrix_write_group_mode(total: u8, id: u8, out: &mut [u8]) -> Outcome
     ensures { Gives (writing (of_short group_mode) (total ∷ id ∷ []) [] out.old) result out.new }
 {
-    writing::write_group_mode(total, id, out)
+    writing::write_group_mode(total, id, out).into()
 }
 
 // Writes set bank.
@@ -278,7 +267,7 @@ pub extern "C" fn matrix_write_group_mode(total: u8, id: u8, out: &mut [u8]) -> 
 pub extern "C" fn matrix_write_set_bank(bank: u8, out: &mut [u8]) -> Outcome
     ensures { Gives (writing (of_short set_bank) (bank ∷ []) [] out.old) result out.new }
 {
-    writing::write_set_bank(bank, out)
+    writing::write_set_bank(bank, out).into()
 }
 
 // Writes unlock bank.
@@ -286,7 +275,7 @@ pub extern "C" fn matrix_write_set_bank(bank: u8, out: &mut [u8]) -> Outcome
 pub extern "C" fn matrix_write_unlock_bank(out: &mut [u8]) -> Outcome
     ensures { Gives (writing (of_short unlock_bank) [] [] out.old) result out.new }
 {
-    writing::write_unlock_bank(out)
+    writing::write_unlock_bank(out).into()
 }
 
 // Writes store edit buffer.
@@ -299,7 +288,7 @@ pub extern "C" fn matrix_write_store_edit_buffer(
 ) -> Outcome
     ensures { Gives (writing (of_short store_edit_buffer) (number ∷ bank ∷ id ∷ []) [] out.old) result out.new }
 {
-    writing::write_store_edit_buffer(number, bank, id, out)
+    writing::write_store_edit_buffer(number, bank, id, out).into()
 }
 
 // What a message does to a unit.
@@ -320,10 +309,10 @@ pub extern "C" fn matrix_unit_meant(unit: Unit, id: u8) -> bool
 
 // Writes a bank.
 #[unsafe(no_mangle)]
-pub extern "C" fn matrix_write_bank(ps: &[u8], out: &mut [u8]) -> BankOutcome
+pub extern "C" fn matrix_write_bank(ps: &[u8], out: &mut [u8]) -> Placed
     ensures { Gives (writing_bank ps.now out.old) result out.new }
 {
-    writing::write_bank(ps, out)
+    writing::placed(writing::write_bank(ps, out))
 }
 
 // Writes the shortest list of edits that turns one patch into another.
@@ -331,7 +320,7 @@ pub extern "C" fn matrix_write_bank(ps: &[u8], out: &mut [u8]) -> BankOutcome
 pub extern "C" fn matrix_plan(a: &[u8], b: &[u8], out: &mut [u8]) -> Outcome
     ensures { Gives (planning a.now b.now out.old) result out.new }
 {
-    planner::plan(a, b, out)
+    planner::plan(a, b, out).into()
 }
 
 // Checks a list of edits that is to turn one patch into another.
@@ -339,5 +328,5 @@ pub extern "C" fn matrix_plan(a: &[u8], b: &[u8], out: &mut [u8]) -> Outcome
 pub extern "C" fn matrix_check_plan(a: &[u8], b: &[u8], list: &[u8]) -> Outcome
     ensures { result ≡ checking a.now b.now list.now }
 {
-    checker::check_plan(a, b, list)
+    checker::check_plan(a, b, list).into()
 }

@@ -18,7 +18,7 @@ ghost use Rattle.judging.specs.code.Heard.{verdict_from, told_heard, heard_from,
 use crate::content::Content;
 use crate::dumps::judge_dump;
 use crate::shorts::judge_short;
-use answers::Refusal;
+use answers::{Outcome, Refusal};
 use frames::{Ending, Span};
 use messages::kinds::{DEVICE, Kind, MAKER, kind_of};
 
@@ -35,6 +35,26 @@ pub struct Accepted {
 pub struct Heard {
     pub span: Span,
     pub judged: Result<Accepted, Refusal>,
+}
+
+// The outcome of what a message comes to: accepted, its detail is the opcode.
+pub fn outcome_of(judged: Result<Accepted, Refusal>) -> Outcome
+    ensures { result ≡ (told_judged judged).outcome }
+{
+    match judged {
+        Ok(accepted) => answers::done(usize::from(accepted.opcode)),
+        Err(refusal) => refusal.into(),
+    }
+}
+
+// The bytes that come with it: zeros where it is refused.
+pub fn bytes_of(judged: Result<Accepted, Refusal>) -> [u8; 4]
+    ensures { result ≡ (told_judged judged).bytes }
+{
+    match judged {
+        Ok(accepted) => accepted.bytes,
+        Err(_) => [0; 4],
+    }
 }
 
 // The kind by its opcode, 6 for any other.

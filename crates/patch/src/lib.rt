@@ -62,17 +62,13 @@ fn first_out(p: &[u8; SIZE]) -> Option<Found>
 }
 
 // `true` only where no bus is half used. Each of 28 bytes is seen with the second behind it, many at once: every third is a source,
-// with its destination.
+// with its destination. Without a branch, so that the compiler makes vector code of it.
 fn buses_whole(p: &[u8; SIZE]) -> bool
     ensures { result ≡ true → first_half p.now ≡ none }
 {
     let mut half = false;
     for j in 0..3 * BUSES - 2 {
-        if half_used(p[SOURCE_AT + j], p[DESTINATION_AT + j]) {
-            if j % 3 == 0 {
-                half = true;
-            }
-        }
+        half |= half_used(p[SOURCE_AT + j], p[DESTINATION_AT + j]) & (j % 3 == 0);
     }
     !half
 }

@@ -1,24 +1,21 @@
 -- What the walk finds, by the place of the first F0H: none past the input's end, else what is heard of the bytes behind it.
 use mathlib.Core.Path.{◌≡◌, ap, ◌∙◌}
-use mathlib.Core.List.{List, []}
-use mathlib.Core.Option.{none}
+use mathlib.Core.List.{List}
 use Prim.Native.Nat.{ℕ, ◌+◌, ◌-◌, ◌^◌, ◌≤◌, ◌<◌}
 use native.Mathlib.Omega.{arith}
 use native.Mathlib.Numerals.{add-one}
 use lib.ListN.{length, take, drop, length-drop}
-use Rattle.answers.specs.Table.{four}
 use Rattle.answers.proofs.Lists.{to_end}
 use Rattle.frames.specs.declared.Span.{Span}
 use Rattle.frames.specs.code.Extent.{start_at, span_of}
 use Rattle.frames.proofs.Found.{walk_none, walk_found}
 use Rattle.messages.specs.Judge.{judge}
-use Rattle.judging.specs.declared.Heard.{Heard}
-use Rattle.judging.specs.code.Heard.{heard_from}
-use Rattle.reading.specs.code.Told.{report_or, end_from, walked_with, reading_from}
+use Rattle.judging.specs.code.Heard.{Heard, heard_from}
+use Rattle.reading.specs.code.Told.{none_read, end_from, walked_with, reading_from}
 use Rattle.reading.proofs.Spans.{told_reading_from, end_within}
 
 module _ (s : List ℕ) (place i : ℕ) (e : i ≡ start_at s place) where
-  pub none_found : length s ≤ i → walked_with s place ≡ record { report = report_or (length s) none; bytes = four [] }
+  pub none_found : length s ≤ i → walked_with s place ≡ none_read (length s)
   none_found h = rw (walk_none judge s place (rw e at h))
 
   -- The bytes behind it, as the code lends them.

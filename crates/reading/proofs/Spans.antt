@@ -4,9 +4,8 @@ use mathlib.Core.Bool.{Bool, true, false, cond}
 use mathlib.Core.List.{List, [], ◌∷◌, ◌++◌}
 use Prim.Native.Nat.{ℕ, suc, ◌+◌, ◌≤◌}
 use native.Mathlib.Omega.{arith}
-use lib.Dec.{eqb, leb}
+use lib.Dec.{leb}
 use lib.ListN.{length, drop, length-drop}
-use borrow.Author.Tests.{eqb-true, eqb-false}
 use Rattle.answers.specs.Table.{Verdict, done, refused, outcome, four}
 use Rattle.answers.specs.Effect.{Effect, Gives, told_as}
 use Rattle.streams.specs.Bytes.{body, real_time_in}
@@ -14,39 +13,41 @@ use Rattle.streams.specs.Stream.{report, message_at, reading, read_into}
 use Rattle.streams.specs.Stream as stream
 use Rattle.streams.proofs.Bytes.{body_within}
 use Rattle.frames.specs.code.Extent.{span_of, ending_of}
-use Rattle.frames.proofs.Found.{message_refused, message_complete}
+use Rattle.frames.specs.declared.Ending.{Ending}
+use Rattle.frames.specs.declared.Ending.TheVariants.{Whole, Interrupted, Cut}
+use Rattle.frames.proofs.Found.{message_cut, message_interrupted, message_complete}
 use Rattle.messages.specs.Judge.{judge}
-use Rattle.judging.specs.declared.Heard.{Heard}
-use Rattle.judging.specs.declared.Judged.{Judged}
-use Rattle.judging.specs.code.Judged.{bytes_in, told, recorded_as}
-use Rattle.judging.specs.code.Heard.{verdict_from, heard_from, recorded_from}
-use Rattle.reading.specs.code.Told.{end_from, report_of, report_from, reading_of, reading_from, read_message}
+use Rattle.judging.specs.code.Judged.{Judged, bytes_in, told, recorded_as}
+use Rattle.judging.specs.code.Heard.{Heard, verdict_from, heard_from, recorded_from}
+use Rattle.reading.specs.code.Told.{closing, end_from, report_of, report_from, reading_of, reading_from, read_message}
 
 module _ (t : List ℕ) where
   pub span_length : (span_of t).length ≡ length (body t)
   unfolding span_of
   span_length = refl
 
-  abbrev ended : ℕ
+  abbrev ended : Ending
   ended = ending_of (drop (length (body t)) t)
 
   -- The message at place f.
   pub placed_message : (f : ℕ) → message_at judge f t ≡ report f (end_from f (span_of t)) (verdict_from t) (span_of t).noise
   unfolding span_of
-  placed_message f = by_test (eqb ended 0) refl
+  placed_message f = by_ending ended refl
     where
-      by_test : (v : Bool) → eqb ended 0 ≡ v
-          → message_at judge f t ≡ report f (f + 1 + length (body t) + cond v 1 0) (verdict_from t) (real_time_in (body t))
-      by_test true q =
-          let z = eqb-true ended 0 q in
+      by_ending : (e : Ending) → ended ≡ e
+          → message_at judge f t ≡ report f (f + 1 + length (body t) + closing e) (verdict_from t) (real_time_in (body t))
+      by_ending Whole q =
           let end : suc (suc f + length (body t)) ≡ f + 1 + length (body t) + 1 = omega arith in
-          message_complete judge f t z
-          ∙ rw (end, ap (λ (r : stream.Report). r.verdict) (message_complete judge 0 t z))
-      by_test false q =
-          let n = eqb-false ended 0 q in
+          message_complete judge f t q
+          ∙ rw (end, ap (λ (r : stream.Report). r.verdict) (message_complete judge 0 t q))
+      by_ending Interrupted q =
           let end : suc f + length (body t) ≡ f + 1 + length (body t) + 0 = omega arith in
-          message_refused judge f t n
-          ∙ rw (end, ap (λ (r : stream.Report). r.verdict) (message_refused judge 0 t n))
+          message_interrupted judge f t q
+          ∙ rw (end, ap (λ (r : stream.Report). r.verdict) (message_interrupted judge 0 t q))
+      by_ending Cut q =
+          let end : suc f + length (body t) ≡ f + 1 + length (body t) + 0 = omega arith in
+          message_cut judge f t q
+          ∙ rw (end, ap (λ (r : stream.Report). r.verdict) (message_cut judge 0 t q))
 
   pub told_report_from : (f : ℕ) → report_from f (heard_from t) ≡ report_of (message_at judge f t)
   told_report_from f = rw (placed_message f)
@@ -61,13 +62,14 @@ module _ (t : List ℕ) where
   unfolding span_of
   end_within f = by_rest (drop (length (body t)) t) refl
     where
-      by_rest : (r : List ℕ) → drop (length (body t)) t ≡ r → f + 1 + length (body t) + cond (eqb (ending_of r) 0) 1 0 ≤ f + 1 + length t
+      by_rest : (r : List ℕ) → drop (length (body t)) t ≡ r → f + 1 + length (body t) + closing (ending_of r) ≤ f + 1 + length t
       by_rest [] q = omega (arith, body_within t)
-      by_rest (x ∷ r) q = by_test (eqb (ending_of (x ∷ r)) 0)
+      by_rest (x ∷ r) q = by_ending (ending_of (x ∷ r))
         where
-          by_test : (v : Bool) → f + 1 + length (body t) + cond v 1 0 ≤ f + 1 + length t
-          by_test true = omega (arith, ap length q, length-drop (length (body t)) t)
-          by_test false = omega (arith, body_within t)
+          by_ending : (e : Ending) → f + 1 + length (body t) + closing e ≤ f + 1 + length t
+          by_ending Whole = omega (arith, ap length q, length-drop (length (body t)) t)
+          by_ending Interrupted = omega (arith, body_within t)
+          by_ending Cut = omega (arith, body_within t)
 
   -- Its packed bytes fit a lent buffer, or not.
   abbrev fitted : ℕ → ℕ → ℕ → ℕ → List ℕ → List ℕ → List ℕ → Bool → Effect stream.Reading

@@ -9,7 +9,7 @@ use crate::walking::{Report, report_of};
 
 // How many reports were made, and the place from which to go on.
 #[repr(C)]
-#[derive(Clone, Copy)]
+#[derive(Clone, Copy, Debug, PartialEq, Eq)]
 pub struct Listed {
     pub count: usize,
     pub next: usize,
@@ -18,28 +18,18 @@ pub struct Listed {
 // How many numbers a report has.
 pub const WIDTH: usize = 6;
 
-// Where the value stands among them, and the noise behind it.
-pub const VALUE: usize = 4;
-
-pub const NOISE: usize = 5;
-
 // One call makes at most so many reports, which bounds how many calls of the two states are under way.
 pub const MOST: usize = 8;
 
 // The room for them.
 const ROOM: usize = MOST * WIDTH;
 
-// A report's numbers, the value in two's complement. Its caller has seen that they fit.
+// A report's numbers at the start of the room. Its caller has seen that they fit.
 fn put_report(r: Report, room: &mut [usize])
     requires { width ≤ length room.old }
     ensures { room.new ≡ numbers_told r ++ drop width room.old }
 {
-    room[0] = r.start;
-    room[1] = r.end;
-    room[2] = r.outcome.answer as usize;
-    room[3] = r.outcome.detail;
-    room[VALUE] = answers::as_number(r.outcome.value);
-    room[NOISE] = r.noise;
+    room[..WIDTH].copy_from_slice(&r.numbers());
 }
 
 // Outside a message: on to the next F0H, if there is room for one more report.

@@ -1,14 +1,17 @@
 // The walk: the first message that starts at a place or later.
-ghost use Rattle.std.specs.Prelude.{◌≡◌, ◌^◌, ◌<◌};
+ghost use Rattle.std.specs.Prelude.{◌≡◌, ◌^◌, ◌<◌, not, eqb};
 ghost use Rattle.std.proofs.Math.Option.{none};
-ghost use Rattle.reading.specs.code.Told.{end_from, report_from, report_or, walked};
+ghost use Rattle.judging.specs.code.Heard.{told_heard};
+ghost use Rattle.reading.specs.code.Told.{numbers_told, end_from, report_from, report_or, walked};
 
-use answers::{DONE, NO_MESSAGE, Outcome};
+use crate::listing::WIDTH;
+use answers::{Outcome, Refusal};
+use frames::Ending;
 use judging::Heard;
 
 // Where a message starts and ends, its outcome, and how many bytes between the two are real time.
 #[repr(C)]
-#[derive(Clone, Copy)]
+#[derive(Clone, Copy, Debug, PartialEq, Eq)]
 pub struct Report {
     pub start: usize,
     pub end: usize,
@@ -16,29 +19,44 @@ pub struct Report {
     pub noise: usize,
 }
 
-// The report of a message from what was heard of it, its F0H at `start`. The callers have seen that its end is a place.
+impl Report {
+    // Whether it is of a message, and does not tell that there is none.
+    pub fn is_found(self) -> bool
+        ensures { result ≡ not (eqb self.outcome.answer 1) }
+    {
+        self.outcome.answer != Outcome::from(Refusal::NoMessage).answer
+    }
+
+    // Its numbers, the value in two's complement.
+    pub fn numbers(self) -> [usize; WIDTH]
+        ensures { result ≡ numbers_told self }
+    {
+        [
+            self.start,
+            self.end,
+            usize::from(self.outcome.answer),
+            self.outcome.detail,
+            answers::as_number(self.outcome.value),
+            self.noise,
+        ]
+    }
+}
+
+// The report of a message from what was heard of it, its F0H at `start`: a complete one ends behind its F7H, any other before the byte
+// that ends it. The callers have seen that its end is a place.
 pub(crate) fn report_of(start: usize, heard: Heard) -> Report
     requires { end_from start heard.span < 2 ^ 64 }
-    ensures { result ≡ report_from start heard }
+    ensures { result ≡ report_from start (told_heard heard) }
 {
-    let span = heard.span;
-    let judged = heard.judged;
-    let outcome = judged.outcome;
-    let end = start + 1 + span.length;
-    let noise = span.noise;
-    if span.ending != DONE {
-        return Report {
-            start,
-            end,
-            outcome,
-            noise,
-        };
-    }
+    let closing = match heard.span.ending {
+        Ending::Whole => 1,
+        Ending::Interrupted | Ending::Cut => 0,
+    };
     Report {
         start,
-        end: end + 1,
-        outcome,
-        noise,
+        end: start + 1 + heard.span.length + closing,
+        outcome: judging::outcome_of(heard.judged),
+        noise: heard.span.noise,
     }
 }
 
@@ -49,7 +67,7 @@ pub(crate) fn no_message(length: usize) -> Report
     Report {
         start: length,
         end: length,
-        outcome: answers::refused(NO_MESSAGE, 0),
+        outcome: Refusal::NoMessage.into(),
         noise: 0,
     }
 }

@@ -45,7 +45,7 @@ use Rattle.reading.specs.code.Told.{report_or, walked, walked_with, reads}
 use Rattle.units.specs.code.Steps.{told}
 use Rattle.units.proofs.Steps.{refused_stays}
 use Rattle.reading.specs.code.Rooms.{width, most, made as made_in}
-use Rattle.writing.specs.declared.BankOutcome.{BankOutcome}
+use Rattle.answers.specs.declared.Placed.{Placed}
 use Rattle.writing.specs.Writing.{writing_bank, bank_bytes, first_bad, or_later, unless_bad}
 use Rattle.pairs.specs.Pairs.{pair_rows}
 use Rattle.pairs.proofs.Pair.{pair_refusals}
@@ -314,7 +314,7 @@ bad_none (suc n) k ps e = go (first (field_rows (take 134 ps)) (done 0 [] [])) r
         (done_passed (field_rows (take 134 ps)) (done 0 [] []) o b p q).0 (i e)
     go (refused r) q e i = let z : ◌≡◌ {A = ℕ} 0 1 = cc in absurd (omega arith)
 
-bad_some : (n k : ℕ) (ps : List ℕ) (b : BankOutcome) (v : Verdict) → first_bad n k ps ≡ some b → first (patches_rows n ps) v ≡ refused b.outcome
+bad_some : (n k : ℕ) (ps : List ℕ) (b : Placed) (v : Verdict) → first_bad n k ps ≡ some b → first (patches_rows n ps) v ≡ refused b.outcome
 unfolding first_bad
 bad_some zero k ps b v e = let z : ◌≡◌ {A = ℕ} 0 1 = cc in absurd (omega arith)
 bad_some (suc n) k ps b v e =
@@ -329,7 +329,7 @@ bad_some (suc n) k ps b v e =
     go (refused r) q e i =
         let same : record { outcome = r; place = k } ≡ b = cc in
         given_first (field_rows (take 134 ps)) (first (patches_rows n (drop 134 ps)) v) r (first_given (field_rows (take 134 ps)) 0 [] [] r q)
-        ∙ ap (λ (x : BankOutcome). refused x.outcome) same
+        ∙ ap (λ (x : Placed). refused x.outcome) same
 
 bank_refusals : (n : ℕ) (ps : List ℕ) → Refusals (patches_rows n ps)
 bank_refusals zero ps = tt
@@ -367,7 +367,7 @@ module _ (ps out : List ℕ) where
         kept = rw (q, e, u) (record { refused = λ n. absurd (n refl); behind = λ z. drop-append_seam bytes (drop (length bytes) out) });
       }
 
-  by_bad : wrong_length ≡ false → (o : Option BankOutcome) → first_bad (length ps / 134) 0 ps ≡ o → Told
+  by_bad : wrong_length ≡ false → (o : Option Placed) → first_bad (length ps / 134) 0 ps ≡ o → Told
   unfolding writing_bank
   by_bad q none e = by_room q e (ltb (length out) (length bytes)) refl
   by_bad q (some b) e =
@@ -398,7 +398,7 @@ module _ (ps : List ℕ) where
       by_place (yes m) = h j m
       by_place (no m) = let e : j ≡ k = omega (arith, m) in rw e p
 
-  bad_place : (n k : ℕ) (b : BankOutcome) → first_bad n k (drop (k * 134) ps) ≡ some b → ((j : ℕ) → j < k → Passes j) → PlaceOf ps b
+  bad_place : (n k : ℕ) (b : Placed) → first_bad n k (drop (k * 134) ps) ≡ some b → ((j : ℕ) → j < k → Passes j) → PlaceOf ps b
   unfolding first_bad
   bad_place zero k b e h = let z : ◌≡◌ {A = ℕ} 0 1 = cc in absurd (omega arith)
   bad_place (suc n) k b e h = go (first (field_rows (patch_at k ps)) (done 0 [] [])) refl e (bad_place n (suc k) b)
@@ -416,7 +416,7 @@ module _ (ps : List ℕ) where
           let is_refused = first_number IsRefusal rows 0 [] [] r (field_refusals (patch_at k ps)) q in
           subst (PlaceOf ps) same (refused_patch (sym (ap outcome_of q)) (λ z. omega arith) h)
 
-  by_bank : (out : List ℕ) (o : Option BankOutcome) → first_bad (length ps / 134) 0 ps ≡ o → PlaceOf ps (unless_bad o (bank_bytes ps) out).result
+  by_bank : (out : List ℕ) (o : Option Placed) → first_bad (length ps / 134) 0 ps ≡ o → PlaceOf ps (unless_bad o (bank_bytes ps) out).result
   by_bank out (some b) e = bad_place (length ps / 134) 0 b e (λ j l. absurd (omega arith))
   by_bank out none e = by_room (ltb (length out) (length (bank_bytes ps))) refl
     where

@@ -33,7 +33,7 @@ use Rattle.messages.specs.Kinds.{single_patch, Filed as FiledKind, kind_of}
 use Rattle.messages.specs.Judge.{judge}
 use Rattle.messages.specs.Layout.{dump, message, given_rows}
 use Rattle.messages.proofs.Written.{Sound, sound, sound_holds}
-use Rattle.writing.specs.declared.BankOutcome.{BankOutcome}
+use Rattle.answers.specs.declared.Placed.{Placed}
 use Rattle.writing.specs.Writing.{writing_bank, bank_from, first_bad, or_later, unless_bad}
 use Rattle.writing.specs.code.Writers.{bank_tested}
 use Rattle.writing.proofs.Laws.{length_patch, length_patch_dump, length_bank, bank_is_tested, none_bad}
@@ -144,14 +144,14 @@ wrong ps out e q = omega (arith, rw q at e)
 filed : (ps out : List ℕ) → (writing_bank ps out).result.outcome.answer ≡ 0 → Filed ps out
 filed ps out e = by_length (eqb (length ps % 134) 0) (ltb 13400 (length ps)) refl refl
   where
-    by_bad : (whole : length ps % 134 ≡ 0) (few : length ps ≤ 13400) (o : Option BankOutcome) → first_bad (length ps / 134) 0 ps ≡ o → Filed ps out
+    by_bad : (whole : length ps % 134 ≡ 0) (few : length ps ≤ 13400) (o : Option Placed) → first_bad (length ps / 134) 0 ps ≡ o → Filed ps out
     by_bad whole few none q =
-        let w = bank_is_tested ps out whole few ∙ ap (λ (o : Option BankOutcome). unless_bad o (bank_from (length ps / 134) 0 ps) out) q in
+        let w = bank_is_tested ps out whole few ∙ ap (λ (o : Option Placed). unless_bad o (bank_from (length ps / 134) 0 ps) out) q in
         record { whole = whole; few = few; good = q; bytes = rw w (roomy (bank_from (length ps / 134) 0 ps) out (rw w at e)) }
     by_bad whole few (some b) q =
-        let w = bank_is_tested ps out whole few ∙ ap (λ (o : Option BankOutcome). unless_bad o (bank_from (length ps / 134) 0 ps) out) q in
+        let w = bank_is_tested ps out whole few ∙ ap (λ (o : Option Placed). unless_bad o (bank_from (length ps / 134) 0 ps) out) q in
         let zero = rw w at e in
-        let n = none_bad (length ps / 134) 0 ps (ap (λ (o : Option BankOutcome). (bank_tested o).outcome.answer) q ∙ zero) in
+        let n = none_bad (length ps / 134) 0 ps (ap (λ (o : Option Placed). (bank_tested o).outcome.answer) q ∙ zero) in
         let z : ◌≡◌ {A = ℕ} 0 1 = cc in
         absurd (omega arith)
 

@@ -37,7 +37,7 @@ use Rattle.messages.specs.Kinds.{shape_of, size_of, count_of, kind_of}
 use Rattle.messages.specs.Judge.{byte_at, bytes_from, data_of, packed_of, data_rows, packed_rows, operand_rows, kind_rows, record_of, message_rows, judge}
 use Rattle.messages.specs.Layout.{given_rows}
 use Rattle.judging.specs.code.Judged.{bytes_in}
-use Rattle.writing.specs.declared.BankOutcome.{BankOutcome}
+use Rattle.answers.specs.declared.Placed.{Placed}
 use Rattle.writing.specs.Writing.{writing_bank}
 use Rattle.pairs.specs.Pairs.{pair_rows}
 use Rattle.pairs.proofs.Pair.{name_rows}
@@ -196,7 +196,7 @@ patches_other (suc n) ps =
 bank_tells : (ps out : List ℕ) → let r = (writing_bank ps out).result in Tells (in_patch (patch_at r.place ps)) r.outcome
 bank_tells ps out = by_place (demand_1.bank_place ps out)
   where
-    b : BankOutcome
+    b : Placed
     b = (writing_bank ps out).result
 
     value : ℕ → ℤ

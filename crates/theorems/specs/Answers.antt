@@ -26,7 +26,7 @@ use Rattle.messages.specs.Judge.{byte_at, lent_operand_rows, record_of, message_
 use Rattle.messages.specs.code.Sizes.{lent_rows}
 use Rattle.messages.specs.Layout.{message, given_rows}
 use Rattle.reading.specs.code.Told.{walked, walked_with, reads}
-use Rattle.writing.specs.declared.BankOutcome.{BankOutcome}
+use Rattle.answers.specs.declared.Placed.{Placed}
 use Rattle.writing.specs.Writing.{writing, bank_bytes, bank_most, writing_bank}
 use Rattle.units.specs.declared.Unit.{Unit}
 use Rattle.units.specs.Units.{stays}
@@ -99,7 +99,7 @@ patch_at k ps = take size (drop (k * size) ps)
 
 -- The place that comes with a bank's outcome: with the refusal of a patch, the number of that patch, and no patch before it is refused; with
 -- every other answer 0.
-pub data PlaceOf (ps : List ℕ) (b : BankOutcome) : Type 0 where
+pub data PlaceOf (ps : List ℕ) (b : Placed) : Type 0 where
   refused_patch : b.outcome ≡ tested (field_rows (patch_at b.place ps)) → (b.outcome.answer ≡ 0 → ⊥)
       → ((k : ℕ) → k < b.place → tested (field_rows (patch_at k ps)) ≡ outcome 0 0) → PlaceOf ps b
   no_patch : b.place ≡ 0 → (b.outcome.answer ≡ 0) ⊎ (b.outcome.answer ≡ 7) ⊎ (b.outcome.answer ≡ 13) → PlaceOf ps b

@@ -1,11 +1,12 @@
 -- What the parts of a call leave: bytes kept in lent room, the record of a message that grows or has ended, and its report.
-use Rattle.std.specs.Prelude.{◌≡◌, false, true, cond, List, ℕ, ◌%◌, ◌++◌, eqb, length, take}
+use Rattle.std.specs.Prelude.{◌≡◌, false, true, cond, List, [], ℕ, ◌%◌, ◌++◌, eqb, length, take}
 use Rattle.answers.specs.declared.Outcome.{Outcome}
+use Rattle.answers.specs.Table.{four}
 use Rattle.answers.specs.Effect.{at_start}
 use Rattle.streams.specs.Bytes.{without_real_time}
 use Rattle.messages.specs.Kinds.{kind_of}
 use Rattle.messages.specs.code.Sizes.{packed_size}
-use Rattle.judging.specs.declared.Judged.{Judged}
+use Rattle.judging.specs.code.Judged.{Judged}
 use Rattle.reading.specs.code.Told.{report_as}
 use Rattle.cable.specs.declared.Cable.{Cable}
 use Rattle.cable.specs.declared.Fed.{Fed}
@@ -28,6 +29,10 @@ keeping c w = let b = take room w in record c { bytes = at_start b c.bytes; coun
 -- A record of a message with the bytes t more of it.
 abbrev pub grown : Cable → List ℕ → Cable
 grown c t = keeping c (take c.count c.bytes ++ without_real_time t)
+
+-- What a call tells with which no message ended: a place, an outcome, and how many bytes it took.
+abbrev pub unreported : ℕ → Outcome → ℕ → Fed
+unreported place o n = record { reading = record { report = report_as place place o 0; bytes = four [] }; taken = n; ended = false }
 
 -- What a call tells that took n bytes and with them the end e of a message from place f on, with k real time in it, that comes to j.
 abbrev pub reported : Judged → ℕ → ℕ → ℕ → ℕ → Fed

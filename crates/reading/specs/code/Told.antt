@@ -1,5 +1,5 @@
 -- A report and a reading as the code tells them: plain numbers, and the four bytes that come with an answer.
-use Rattle.std.specs.Prelude.{cond, List, [], ◌∷◌, ℕ, ◌+◌, eqb, length}
+use Rattle.std.specs.Prelude.{List, [], ◌∷◌, ℕ, ◌+◌, length}
 use Rattle.std.proofs.Math.Option.{Option, none, some}
 use Rattle.answers.specs.declared.Outcome.{Outcome}
 use Rattle.answers.specs.Table.{outcome, outcome_of, four}
@@ -7,8 +7,10 @@ use Rattle.answers.specs.Effect.{Effect, told_as}
 use Rattle.answers.specs.code.Numbers.{as_number}
 use Rattle.streams.specs.Stream as stream
 use Rattle.frames.specs.declared.Span.{Span}
+use Rattle.frames.specs.declared.Ending.{Ending}
+use Rattle.frames.specs.declared.Ending.TheVariants.{Whole, Interrupted, Cut}
 use Rattle.messages.specs.Judge.{judge}
-use Rattle.judging.specs.declared.Heard.{Heard}
+use Rattle.judging.specs.code.Heard.{Heard}
 use Rattle.judging.specs.code.Judged.{bytes_in}
 use Rattle.reading.specs.declared.recording.Reading.{Reading}
 use Rattle.reading.specs.declared.walking.Report.{Report}
@@ -41,9 +43,19 @@ bytes_found (some r) = bytes_in r.verdict
 abbrev pub walked_with : List ℕ → ℕ → Reading
 walked_with s place = record { report = walked s place; bytes = four (bytes_found (stream.walk judge s place)) }
 
+-- How many bytes close a message: a complete one its F7H.
+abbrev pub closing : Ending → ℕ
+closing Whole = 1
+closing Interrupted = 0
+closing Cut = 0
+
+-- Where no message is found, no bytes come with the answer.
+abbrev pub none_read : ℕ → Reading
+none_read n = record { report = report_or n none; bytes = four [] }
+
 -- The end of a message whose F0H stands at place f: behind its F7H, else before the byte that ends it.
 abbrev pub end_from : ℕ → Span → ℕ
-end_from f s = f + 1 + s.length + cond (eqb s.ending 0) 1 0
+end_from f s = f + 1 + s.length + closing s.ending
 
 -- A report from what was heard of its message, and a reading.
 abbrev pub report_from : ℕ → Heard → Report

@@ -17,4 +17,5 @@ pub returns : goal.returns
 unfolding applying_bus
 returns c =
     let a = c.args in
-    rw (judged_passed _ _ (patch_rows a.p.now) a.p.now c.in_ok-change.field-0 (bus_refusals a.self.bus a.self.source a.self.amount a.self.destination) c.in_ok-change.ensures) c.apply.ensures
+    let refuses = bus_refusals a.self.bus a.self.source a.self.amount a.self.destination in
+    rw (judged_passed _ _ (patch_rows a.p.now) a.p.now c.in_ok-change.field-0 refuses c.in_ok-change.ensures) c.apply.ensures

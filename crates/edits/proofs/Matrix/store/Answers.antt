@@ -12,7 +12,8 @@ pub returns-in-Ok : goal.returns-in-Ok
 unfolding storing_bus
 returns-in-Ok c =
     let a = c.args in
-    rw (judged_passed _ _ (length_row a.p.now ∷ []) a.p.now c.in-Ok.change (bus_refusals a.self.bus a.self.source a.self.amount a.self.destination) c.in-Ok.ensures) c.store.ensures
+    let refuses = bus_refusals a.self.bus a.self.source a.self.amount a.self.destination in
+    rw (judged_passed _ _ (length_row a.p.now ∷ []) a.p.now c.in-Ok.change refuses c.in-Ok.ensures) c.store.ensures
 
 pub returns-in-Err : goal.returns-in-Err
 unfolding storing_bus

@@ -17,4 +17,5 @@ pub returns : goal.returns
 unfolding applying
 returns c =
     let a = c.args in
-    rw (judged_passed _ _ (patch_rows a.p.now) a.p.now c.in_ok-change.field-0 (edit_refusals a.self.parameter.0 a.self.value) c.in_ok-change.ensures) c.apply.ensures
+    let refuses = edit_refusals a.self.parameter.0 a.self.value in
+    rw (judged_passed _ _ (patch_rows a.p.now) a.p.now c.in_ok-change.field-0 refuses c.in_ok-change.ensures) c.apply.ensures

@@ -14,7 +14,7 @@ use Rattle.streams.specs.Stream.{Report, message_at}
 use Rattle.streams.specs.code.Scan.{outside, inside}
 use Rattle.frames.proofs.Handing.{outside_none, outside_found, inside_again, inside_left, inside_cut}
 use Rattle.messages.specs.Judge.{judge}
-use Rattle.judging.specs.declared.Heard.{Heard}
+use Rattle.judging.specs.code.Heard.{Heard}
 use Rattle.reading.specs.code.Told.{end_from, report_of, report_from, numbers_told}
 use Rattle.reading.specs.code.Rooms.{numbers_of, width, ReadsBack}
 use Rattle.reading.proofs.Spans.{span_length, told_report_from, end_within}

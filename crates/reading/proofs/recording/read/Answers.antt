@@ -8,7 +8,7 @@ use Rattle.answers.proofs.Lists.{to_end}
 use Rattle.streams.specs.Stream.{read}
 use Rattle.frames.proofs.Found.{walk_none, walk_found}
 use Rattle.messages.specs.Judge.{judge}
-use Rattle.judging.specs.declared.Heard.{Heard}
+use Rattle.judging.specs.code.Heard.{Heard, told_heard}
 use Rattle.reading.proofs.Spans.{read_from}
 use Rattle.reading.proofs.Found.{end_fits}
 use Rattle.reading.proofs.recording.read.Goals as goal
@@ -18,11 +18,11 @@ unfolding read
 returns-then-s-start c =
     let a = c.args in
     rw (walk_none judge a.s.now a.place (rw c.find_start_from-start.ensures at c.if-s-start.true))
-    (record { result = rw c.no_message.ensures; lent = refl })
+    (record { result = rw c.no_reading.ensures; lent = refl })
 
-pub report_of-requires : goal.report_of-requires
-report_of-requires c =
-    let span = ap (λ (h : Heard). h.span) c.record_from-heard.ensures.result in
+pub reading_of-requires : goal.reading_of-requires
+reading_of-requires c =
+    let span = ap (λ (h : Heard). h.span) c.record_from.ensures.result in
     end_fits c.args.s.now c.args.place _ c.find_start_from-start.ensures c.if-s-start.false (omega (arith, c.well_formed)) _ span
 
 pub returns : goal.returns
@@ -34,5 +34,5 @@ returns c =
     let e = c.find_start_from-start.ensures in
     let found = rw (← e, ← (add-one i)) at (walk_found judge s a.place (rw e at c.if-s-start.false)) in
     let part = take (length s - (i + 1)) (drop (i + 1) s) in
-    let told = read_from part i a.buffer.now c.record_from-heard.result c.record_from-heard.new.buffer c.record_from-heard.ensures in
-    rw (found, c.report_of.ensures) (rw (to_end (i + 1) s) at told)
+    let told = read_from part i a.buffer.now (told_heard c.record_from.result) c.record_from.new.buffer c.record_from.ensures in
+    rw (found, c.reading_of.ensures) (rw (to_end (i + 1) s) at told)

@@ -1,22 +1,22 @@
 -- `walk_with_bytes` finds the first F0H at the place or later, and gives the message there.
-use mathlib.Core.Path.{sym, ap}
+use mathlib.Core.Path.{sym, ap, ◌∙◌}
 use native.Mathlib.Omega.{arith}
-use Rattle.judging.specs.declared.Heard.{Heard}
+use Rattle.judging.specs.code.Heard.{Heard, told_heard}
 use Rattle.reading.proofs.Found.{none_found, found_there, end_fits}
 use Rattle.reading.proofs.recording.walk_with_bytes.Goals as goal
 
 pub returns-then-s-start : goal.returns-then-s-start
 returns-then-s-start c =
     let a = c.args in
-    rw c.no_message.ensures (sym (none_found a.s.now a.place _ c.find_start_from-start.ensures c.if-s-start.true))
+    c.no_reading.ensures ∙ sym (none_found a.s.now a.place _ c.find_start_from-start.ensures c.if-s-start.true)
 
-pub report_of-requires : goal.report_of-requires
-report_of-requires c =
+pub reading_of-requires : goal.reading_of-requires
+reading_of-requires c =
     let left = c.if-s-start.false in
-    end_fits c.args.s.now c.args.place _ c.find_start_from-start.ensures left (omega (arith, c.well_formed)) _ (ap (λ (h : Heard). h.span) c.judge_from-heard.ensures)
+    end_fits c.args.s.now c.args.place _ c.find_start_from-start.ensures left (omega (arith, c.well_formed)) _ (ap (λ (h : Heard). h.span) c.judge_from.ensures)
 
 pub returns : goal.returns
 returns c =
     let a = c.args in
-    rw c.report_of.ensures
-    (found_there a.s.now a.place _ c.find_start_from-start.ensures c.if-s-start.false _ c.judge_from-heard.ensures)
+    let e = c.find_start_from-start.ensures in
+    c.reading_of.ensures ∙ found_there a.s.now a.place _ e c.if-s-start.false (told_heard c.judge_from.result) c.judge_from.ensures

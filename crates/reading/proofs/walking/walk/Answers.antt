@@ -1,7 +1,7 @@
 -- `walk` finds the first F0H at the place or later, and gives the message there.
 use mathlib.Core.Path.{sym, ap, ◌∙◌}
 use native.Mathlib.Omega.{arith}
-use Rattle.judging.specs.declared.Heard.{Heard}
+use Rattle.judging.specs.code.Heard.{Heard, told_heard}
 use Rattle.reading.specs.declared.recording.Reading.{Reading}
 use Rattle.reading.proofs.Found.{none_found, found_there, end_fits}
 use Rattle.reading.proofs.walking.walk.Goals as goal
@@ -18,5 +18,5 @@ report_of-requires c =
 pub returns : goal.returns
 returns c =
     let a = c.args in
-    let there = found_there a.s.now a.place _ c.find_start_from-start.ensures c.if-s-start.false _ c.judge_from.ensures in
+    let there = found_there a.s.now a.place _ c.find_start_from-start.ensures c.if-s-start.false (told_heard c.judge_from.result) c.judge_from.ensures in
     c.report_of.ensures ∙ ap (λ (r : Reading). r.report) there
