@@ -7,7 +7,7 @@ use Rattle.cable.proofs.size_told.Goals as goal
 
 pub returns-in-Ok : goal.returns-in-Ok
 returns-in-Ok c =
-    rw (c.packed_size.ensures, c.kind_of.ensures, c.in-Ok.is, mod-eq_of_lt {n = c.in-Ok.accepted.opcode} {m = 256} ?)
+    rw (c.packed_size.ensures, c.kind_of.ensures, c.in-Ok.is, mod-eq_of_lt {n = c.in-Ok.accepted.opcode} {m = 256} (search rules))
 
 pub returns-in-Err : goal.returns-in-Err
 returns-in-Err c =

@@ -1,5 +1,6 @@
 -- `follow` leaves a message that is accepted to its kind; one that is refused, and none, changes nothing.
-use mathlib.Core.Path.{◌≡◌, ap, ◌∙◌}
+use mathlib.Core.Path.{◌≡◌, sym, ap, ◌∙◌}
+use borrow.Author.Tests.{eqb-true, eqb-false}
 use Rattle.units.specs.Units.{stepping}
 use Rattle.units.specs.code.Steps.{done_by}
 use Rattle.units.proofs.Steps.{quiet_step, kind_step, step_told}
@@ -11,7 +12,7 @@ returns c =
     let a = c.args in
     let read = c.walk_with_bytes-reading.ensures in
     let act : done_by c.if-is_done.act ≡ stepping a.self a.s.now a.place = elim c.if-is_done.branch [
-      | then-is_done w ↦ ap done_by w.act-is ∙ w.takes-act.ensures ∙ kind_step _ _ _ _ _ read w.kind_of.ensures w.if-is_done.true
-      | else-is_done w ↦ ap done_by w.act-is ∙ w.stays-act.ensures ∙ quiet_step _ _ _ _ read w.if-is_done.false
+      | then-is_done w ↦ ap done_by w.act-is ∙ w.takes-act.ensures ∙ kind_step _ _ _ _ _ read w.kind_of.ensures (eqb-true _ 0 (sym c.is_done.ensures ∙ w.if-is_done.true))
+      | else-is_done w ↦ ap done_by w.act-is ∙ w.stays-act.ensures ∙ quiet_step _ _ _ _ read (eqb-false _ 0 (sym c.is_done.ensures ∙ w.if-is_done.false))
     ] in
     c.step.ensures ∙ step_told _ _ _ _ _ read act
