@@ -1,5 +1,5 @@
 -- An accepted message's kind says how many, its opcode being a byte; what is refused has none.
-use Rattle.std.proofs.Common.{ne_eqb}
+use Rattle.std.proofs.Common.{ne_eqb, rules}
 use native.Mathlib.Nat.{mod-eq_of_lt}
 use Rattle.answers.specs.Refusals.{outcome_by}
 use Rattle.answers.proofs.Refusals.{never_done}
