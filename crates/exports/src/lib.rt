@@ -229,7 +229,11 @@ pub extern "C" fn matrix_write_master(m: &[u8], out: &mut [u8]) -> Outcome
 pub extern "C" fn matrix_write_edit(parameter: u8, value: u8, out: &mut [u8]) -> Outcome
     ensures { Gives (writing (of_short remote_edit) (parameter ∷ value ∷ []) [] out.old) result out.new }
 {
-    writing::write_edit(Parameter(parameter), value, out).into()
+    let edit = Remote {
+        parameter: Parameter(parameter),
+        value,
+    };
+    writing::write_edit(edit, out).into()
 }
 
 // Writes a matrix modulation edit.
@@ -243,7 +247,13 @@ pub extern "C" fn matrix_write_bus_edit(
 ) -> Outcome
     ensures { Gives (writing (of_short bus_edit) (bus ∷ source ∷ amount ∷ destination ∷ []) [] out.old) result out.new }
 {
-    writing::write_bus_edit(bus, source, amount, destination, out).into()
+    let edit = Matrix {
+        bus,
+        source,
+        amount,
+        destination,
+    };
+    writing::write_bus_edit(edit, out).into()
 }
 
 // Writes a request for data.

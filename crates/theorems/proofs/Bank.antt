@@ -15,7 +15,8 @@ use lib.Seq.{take-append_seam, drop-drop}
 use borrow.Author.Tests.{eq-eqb, eqb-true, le-ltb, lt-ltb, ltb-false, le-leb, lt-leb}
 use Rattle.answers.specs.Lists.{All}
 use Rattle.answers.specs.Table.{Verdict, done, refused, first}
-use Rattle.answers.specs.Effect.{written}
+use Rattle.answers.specs.Effect.{written, or_later}
+use Rattle.answers.specs.code.Found.{found_or}
 use Rattle.answers.proofs.Lists.{all_weaken}
 use Rattle.answers.proofs.Rows.{done_passed}
 use Rattle.answers.specs.promises.Decides.{Silent}
@@ -34,8 +35,7 @@ use Rattle.messages.specs.Judge.{judge}
 use Rattle.messages.specs.Layout.{dump, message, given_rows}
 use Rattle.messages.proofs.Written.{Sound, sound, sound_holds}
 use Rattle.answers.specs.declared.Placed.{Placed}
-use Rattle.writing.specs.Writing.{writing_bank, bank_from, first_bad, or_later, unless_bad}
-use Rattle.answers.specs.code.Found.{found_or}
+use Rattle.writing.specs.Writing.{writing_bank, bank_from, first_bad, unless_bad}
 use Rattle.writing.proofs.Laws.{length_patch, length_patch_dump, length_bank, bank_is_tested, none_bad}
 use Rattle.theorems.specs.Damage.{start_before, start_from, stream, reports_before, reports_after}
 use Rattle.theorems.specs.RoundTrips.{report_for, bank_reports, bank_sent, BankReadBack}
