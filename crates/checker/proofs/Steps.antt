@@ -13,12 +13,12 @@ use lib.Dec.{eqb}
 use lib.ListN.{length, drop, length-drop}
 use borrow.Author.Tests.{eqb-true}
 use Rattle.answers.specs.declared.Outcome.{Outcome}
-use Rattle.answers.specs.Table.{row}
+use Rattle.answers.specs.Table.{row, done}
 use Rattle.answers.specs.Effect.{tested}
-use Rattle.answers.proofs.Rows.{tested_passed_on, tested_stopped}
+use Rattle.answers.specs.promises.Decides.{Silent}
+use Rattle.answers.proofs.Rows.{passed_over, tested_stopped}
 use Rattle.edits.specs.code.Storing.{Stored}
 use Rattle.pairs.specs.Pairs.{same_bytes, pair_rows}
-use Rattle.pairs.proofs.Pair.{pair_refusals}
 use Rattle.edit_lists.specs.Lists.{Edit, message_for, applied, turned}
 use Rattle.edit_lists.specs.Check.{first_edit, before, and_behind, edits_in, ends_in, turn_into, accepts, checking}
 use Rattle.edit_lists.specs.promises.Shortest.{Good}
@@ -136,8 +136,6 @@ module _ (a b s : List ℕ) where
   unfolding checking
   pair_stops r e n = e ∙ sym (tested_stopped (pair_rows a b) (row 20 (not (accepts a b s)) ∷ []) (λ z. n (ap (λ (o : Outcome). o.answer) e ∙ z)))
 
-  pub list_decides : (r : Outcome) → r ≡ tested (pair_rows a b) → r.answer ≡ 0 → (t : Bool) (o : Outcome) → accepts a b s ≡ t
-      → o ≡ tested (row 20 (not t) ∷ []) → o ≡ checking a b s
+  pub list_decides : Silent (pair_rows a b) → (t : Bool) → accepts a b s ≡ t → checking a b s ≡ tested (row 20 (not t) ∷ [])
   unfolding checking
-  list_decides r e z t o f h =
-      rw (tested_passed_on (pair_rows a b) (row 20 (not (accepts a b s)) ∷ []) (pair_refusals a b) (sym (ap (λ (x : Outcome). x.answer) e) ∙ z), f) h
+  list_decides q t f = rw (passed_over (pair_rows a b) (row 20 (not (accepts a b s)) ∷ []) (done 0 [] []) q, f) refl

@@ -2,11 +2,13 @@
 #![tactic(auto)]
 
 ghost use Rattle.std.specs.Prelude.{◌≡◌};
+ghost use Rattle.answers.specs.Refusals.{told_test};
 ghost use Rattle.edit_lists.specs.promises.Shortest.{Good};
 ghost use Rattle.edit_lists.specs.Check.{first_edit, checking};
 ghost use Rattle.checker.specs.code.Steps.{Follows, last_patch, Turns};
 
-use answers::{DONE, NOT_ACCEPTED, Outcome};
+use answers::Refusal;
+use edits::{Matrix, Remote};
 use fields::Parameter;
 use frames::{END, START};
 use messages::kinds::{BusEdit, DEVICE, MAKER, PATCH, RemoteEdit};
@@ -28,13 +30,23 @@ fn follow<'s>(p: &mut [u8], s: &'s [u8]) -> Option<&'s [u8]>
         let [parameter, value, END, rest @ ..] = own else {
             return None;
         };
-        return edits::store_edit(p, Parameter(*parameter), *value).then_some(rest);
+        let edit = Remote {
+            parameter: Parameter(*parameter),
+            value: *value,
+        };
+        return edit.store(p).then_some(rest);
     }
     if *opening == MATRIX {
         let [bus, source, amount, destination, END, rest @ ..] = own else {
             return None;
         };
-        return edits::store_bus_edit(p, *bus, *source, *amount, *destination).then_some(rest);
+        let edit = Matrix {
+            bus: *bus,
+            source: *source,
+            amount: *amount,
+            destination: *destination,
+        };
+        return edit.store(p).then_some(rest);
     }
     None
 }
@@ -55,17 +67,14 @@ fn turn(p: &mut [u8], list: &[u8]) -> bool
 }
 
 // Checks a list of edits that is to turn patch a into patch b: 7, 11 and 12 of a, then of b, then 16 where their names differ, then 20
-// for any list that is not accepted. Done with detail 0.
-pub fn check_plan(a: &[u8], b: &[u8], list: &[u8]) -> Outcome
-    ensures { result ≡ checking a.now b.now list.now }
+// for any list that is not accepted.
+pub fn check_plan(a: &[u8], b: &[u8], list: &[u8]) -> Result<(), Refusal>
+    ensures { told_test result ≡ checking a.now b.now list.now }
 {
-    let pair = pairs::test_pair(a, b);
-    if pair.answer != DONE {
-        return pair;
-    }
+    pairs::test_pair(a, b)?;
     let mut p: [u8; PATCH] = a.try_into().unwrap();
     if !turn(&mut p, list) || !same(&p, b) {
-        return answers::refused(NOT_ACCEPTED, 0);
+        return Err(Refusal::NotAccepted);
     }
-    answers::done(0)
+    Ok(())
 }

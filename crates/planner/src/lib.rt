@@ -5,12 +5,13 @@ pub mod parts;
 
 ghost use Rattle.std.specs.Prelude.{◌≡◌, ◌+◌, ◌≤◌, length};
 ghost use Rattle.answers.specs.Effect.{Gives, at_start};
+ghost use Rattle.answers.specs.Refusals.{told};
 ghost use Rattle.messages.specs.Layout.{message_of};
 ghost use Rattle.edit_lists.specs.Lists.{message_for, list_bytes};
 ghost use Rattle.edit_lists.specs.Plan.{reaching, plan, planning};
 ghost use Rattle.edit_lists.specs.code.Left.{length_at};
 
-use answers::{DONE, NO_ROOM, Outcome};
+use answers::Refusal;
 use fields::{BytePlace, SOURCE_AT};
 use frames::{END, START};
 use messages::kinds::{BusEdit, DEVICE, MAKER, PATCH, RemoteEdit};
@@ -70,21 +71,18 @@ fn put_list(a: &[u8; PATCH], b: &[u8; PATCH], out: &mut [u8])
     }
 }
 
-// Writes the shortest list of edits that turns patch a into patch b, by rising byte place: 7, 11 and 12 of a, then of b, then 16 where
-// their names differ, then 13. Done with the bytes written as detail.
-pub fn plan(a: &[u8], b: &[u8], out: &mut [u8]) -> Outcome
-    ensures { Gives (planning a.now b.now out.old) result out.new }
+// Writes the shortest list of edits that turns patch a into patch b, by rising byte place, and tells how many bytes it has. Refused with
+// 7, 11 and 12 of a, then of b, then with 16 where their names differ, then with 13; every byte of the output then stays.
+pub fn plan(a: &[u8], b: &[u8], out: &mut [u8]) -> Result<usize, Refusal>
+    ensures { Gives (planning a.now b.now out.old) (told result) out.new }
 {
-    let pair = pairs::test_pair(a, b);
-    if pair.answer != DONE {
-        return pair;
-    }
+    pairs::test_pair(a, b)?;
     let a: &[u8; PATCH] = a.try_into().unwrap();
     let b: &[u8; PATCH] = b.try_into().unwrap();
     let size = list_size(a, b);
     if out.len() < size {
-        return answers::refused(NO_ROOM, 0);
+        return Err(Refusal::NoRoom);
     }
     put_list(a, b, out);
-    answers::done(size)
+    Ok(size)
 }

@@ -14,7 +14,7 @@ use Rattle.edit_lists.specs.Check.{first_edit}
 use Rattle.edit_lists.proofs.Reach.{good_silent}
 use Rattle.checker.proofs.Heads.{HasMessage, the_remote, the_matrix, first_remote, first_matrix, first_neither, first_short}
 use Rattle.checker.proofs.Steps.{follows_stored, follows_none}
-use Rattle.checker.proofs.follow.Goals.{In_ok-opening, After-store_edit, After-store_bus_edit}
+use Rattle.checker.proofs.follow.Goals.{In_ok-opening, After-store, After-store-then-eq-2}
 use Rattle.checker.proofs.follow.Goals as goal
 
 front : (i : In_ok-opening) → i.in_ok-opening.opening.now ≡ take 4 i.args.s.now
@@ -42,29 +42,29 @@ other r a b e t = not_from_Decides (bytes_eq a b) (bytes_eq-Decides a b) (sym e 
 one_kind : (opening own : List ℕ) (m n : ℕ) → opening ≡ 240 ∷ 16 ∷ 6 ∷ m ∷ [] → (m ≡ n → ⊥) → (k : ℕ) → HasMessage n k opening own → ⊥
 one_kind opening own m n e d k h = d (ap (λ (x : List ℕ). get_or x 3 0) (sym e ∙ h.opens))
 
-remote_there : (e : After-store_edit) → HasMessage 6 2 e.in_ok-opening.opening.now e.in_ok-opening.own.now
+remote_there : (e : After-store) → HasMessage 6 2 e.in_ok-opening.opening.now e.in_ok-opening.own.now
 remote_there e = record { opens = opened _ _ _ e.eq.ensures e.if-eq.true; long = omega arith; end = omega arith }
 
-matrix_there : (e : After-store_bus_edit) → HasMessage 11 4 e.in_ok-opening.opening.now e.in_ok-opening.own.now
+matrix_there : (e : After-store-then-eq-2) → HasMessage 11 4 e.in_ok-opening.opening.now e.in_ok-opening.own.now
 matrix_there e = record { opens = opened _ _ _ e.eq-2.ensures e.if-eq-2.true; long = omega arith; end = omega arith }
 
-edited : (e : After-store_edit) → Stored (applied (the_remote e.in_ok-opening.own.now) e.args.p.now) e.store_edit.result e.store_edit.new.p
+edited : (e : After-store) → Stored (applied (the_remote e.in_ok-opening.own.now) e.args.p.now) e.store.result e.store.new.p
 edited e =
     let own = e.in_ok-opening.own.now in
-    rw (← (stored_applied e.args.p.now (good_silent e.args.p.now e.requires) (get_or own 0 0) (get_or own 1 0))) e.store_edit.ensures
+    rw (← (stored_applied e.args.p.now (good_silent e.args.p.now e.requires) (get_or own 0 0) (get_or own 1 0))) e.store.ensures
 
-bus_edited : (e : After-store_bus_edit)
-    → Stored (applied (the_matrix e.in_ok-opening.own.now) e.args.p.now) e.store_bus_edit.result e.store_bus_edit.new.p
+bus_edited : (e : After-store-then-eq-2)
+    → Stored (applied (the_matrix e.in_ok-opening.own.now) e.args.p.now) e.store-then-eq-2.result e.store-then-eq-2.new.p
 bus_edited e =
     let own = e.in_ok-opening.own.now in
     let silent = good_silent e.args.p.now e.requires in
-    rw (← (bus_stored_applied e.args.p.now silent (get_or own 0 0) (get_or own 1 0) (get_or own 2 0) (get_or own 3 0))) e.store_bus_edit.ensures
+    rw (← (bus_stored_applied e.args.p.now silent (get_or own 0 0) (get_or own 1 0) (get_or own 2 0) (get_or own 3 0))) e.store-then-eq-2.ensures
 
 pub returns-then-eq : goal.returns-then-eq
 returns-then-eq c =
     let l = goal.at.returns-then-eq c in
     let i = l.In_ok-opening in
-    let e = l.After-store_edit in
+    let e = l.After-store in
     let s = c.args.s.now in
     let own = c.in_ok-opening.own.now in
     follows_stored (first_edit s) (the_remote own) c.args.p.now s _ _ (first_remote s _ own (front i) (back i) (remote_there e)) (edited e)
@@ -74,7 +74,7 @@ pub returns-then-eq-2 : goal.returns-then-eq-2
 returns-then-eq-2 c =
     let l = goal.at.returns-then-eq-2 c in
     let i = l.In_ok-opening in
-    let e = l.After-store_bus_edit in
+    let e = l.After-store-then-eq-2 in
     let s = c.args.s.now in
     let own = c.in_ok-opening.own.now in
     follows_stored (first_edit s) (the_matrix own) c.args.p.now s _ _ (first_matrix s _ own (front i) (back i) (matrix_there e)) (bus_edited e)

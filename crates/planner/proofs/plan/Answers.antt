@@ -1,52 +1,54 @@
 -- Both patches and the room are tested in this order, and then the list is written: each return is a case of `planning`.
-use Rattle.std.proofs.Common.{◌≡◌, sym}
-use Rattle.std.proofs.lemmas.Result.{MatchResult-at_ok}
+use Rattle.std.proofs.Common.{◌≡◌, sym, refl}
+use Rattle.std.proofs.lemmas.Result.{MatchResult-at_ok, err_from_is_err_and}
+use Rattle.answers.specs.Refusals.{outcome_by}
 use Rattle.answers.specs.promises.Decides.{Silent}
-use Rattle.answers.proofs.Effects.{passed, gives_stopped, gives_short, gives_written}
+use Rattle.answers.proofs.Effects.{gives_stopped, gives_short, gives_written}
+use Rattle.answers.proofs.Refusals.{never_done, done_silent}
 use Rattle.pairs.specs.Pairs.{pair_rows}
 use Rattle.pairs.proofs.Pair.{pair_refusals}
 use Rattle.edit_lists.specs.Lists.{list_bytes}
 use Rattle.edit_lists.specs.Plan.{plan, planning}
-use Rattle.planner.proofs.plan.Goals.{After-list_size-size, Else-pair-ne-DONE}
+use Rattle.planner.proofs.plan.Goals.{After-list_size-size}
 use Rattle.planner.proofs.plan.Goals as goal
 
-silent : (e : Else-pair-ne-DONE) → Silent (pair_rows e.args.a.now e.args.b.now)
-silent e =
-    let k = e.args in
-    let pair = e.test_pair-pair in
-    passed (pair_rows k.a.now k.b.now) pair.result (pair_refusals k.a.now k.b.now) pair.ensures e.if-pair-ne-DONE.false
-
-pub returns-then-pair-ne-DONE : goal.returns-then-pair-ne-DONE
+pub returns-in_err-test_pair : goal.returns-in_err-test_pair
 unfolding planning
-returns-then-pair-ne-DONE c =
+returns-in_err-test_pair c =
     let k = c.args in
-    gives_stopped (pair_rows k.a.now k.b.now) (list_bytes (plan k.a.now k.b.now)) k.out.now c.test_pair-pair.result
-    c.test_pair-pair.ensures c.if-pair-ne-DONE.true
+    let p = err_from_is_err_and c.from_residual.result c.from_residual.ensures.1 in
+    let refusal = c.in_err-test_pair.field-0.0 in
+    rw (p.1, p.2)
+    (gives_stopped (pair_rows k.a.now k.b.now) (list_bytes (plan k.a.now k.b.now)) k.out.now (outcome_by refusal)
+    c.in_err-test_pair.ensures (never_done refusal))
+
+-- A pair that passes.
+silent : (l : After-list_size-size) → Silent (pair_rows l.args.a.now l.args.b.now)
+silent l = let k = l.args in done_silent (pair_rows k.a.now k.b.now) 0 (pair_refusals k.a.now k.b.now) l.in_ok-test_pair.ensures
 
 -- The two arrays are the patches.
-same_pair : (c : After-list_size-size) → (c.unwrap-a.result.now ≡ c.args.a.now) × (c.unwrap-b.result.now ≡ c.args.b.now)
-same_pair c =
-    let a = MatchResult-at_ok _ _ _ c.unwrap-a.ensures c.try_into.ensures.1 in
-    let b = MatchResult-at_ok _ _ _ c.unwrap-b.ensures c.try_into-2.ensures.1 in
+same_pair : (l : After-list_size-size) → (l.unwrap-a.result.now ≡ l.args.a.now) × (l.unwrap-b.result.now ≡ l.args.b.now)
+same_pair l =
+    let a = MatchResult-at_ok _ _ _ l.unwrap-a.ensures l.try_into.ensures.1 in
+    let b = MatchResult-at_ok _ _ _ l.unwrap-b.ensures l.try_into-2.ensures.1 in
     (a.same, b.same)
 
 pub returns-then-out-size : goal.returns-then-out-size
 unfolding planning
 returns-then-out-size c =
     let k = c.args in
-    let l = goal.at.returns-then-out-size c in
-    let same = same_pair l.After-list_size-size in
+    let l = (goal.at.returns-then-out-size c).After-list_size-size in
+    let same = same_pair l in
     let s = c.list_size-size in
-    gives_short (pair_rows k.a.now k.b.now) (list_bytes (plan k.a.now k.b.now)) k.out.now s.result c.refused.result
-    (sym (rw (same.0, same.1) at s.ensures)) (silent l.Else-pair-ne-DONE) c.if-out-size.true c.refused.ensures
+    gives_short (pair_rows k.a.now k.b.now) (list_bytes (plan k.a.now k.b.now)) k.out.now s.result _
+    (sym (rw (same.0, same.1) at s.ensures)) (silent l) c.if-out-size.true refl
 
 pub returns : goal.returns
 unfolding planning
 returns c =
     let k = c.args in
-    let l = goal.at.returns c in
-    let same = same_pair l.After-list_size-size in
+    let l = (goal.at.returns c).After-list_size-size in
+    let same = same_pair l in
     let s = c.list_size-size in
-    gives_written (pair_rows k.a.now k.b.now) (list_bytes (plan k.a.now k.b.now)) k.out.now _ s.result c.done.result
-    (sym (rw (same.0, same.1) at s.ensures)) (silent l.Else-pair-ne-DONE) c.if-out-size.false c.done.ensures
-    (rw (same.0, same.1) at c.put_list.ensures)
+    gives_written (pair_rows k.a.now k.b.now) (list_bytes (plan k.a.now k.b.now)) k.out.now _ s.result _
+    (sym (rw (same.0, same.1) at s.ensures)) (silent l) c.if-out-size.false refl (rw (same.0, same.1) at c.put_list.ensures)
