@@ -5,7 +5,6 @@ ghost use Rattle.std.specs.Prelude.{◌≡◌};
 ghost use Rattle.units.specs.Units.{in_bank, unlocked, in_group, meant_for, stays, joined, obeyed, by_kind};
 ghost use Rattle.units.specs.code.Steps.{done_by, told, steps};
 
-use answers::DONE;
 use frames::{END, START};
 use messages::kinds::{DEVICE, GroupMode, Kind, MAKER, Operands, Short, kind_of};
 use operations::{ANY_UNIT, LAST_UNIT, Operation};
@@ -179,7 +178,7 @@ impl Unit {
         let reading = walk_with_bytes(s, place);
         let report = reading.report;
         // The detail of an accepted message is its opcode.
-        let act = if report.outcome.answer == DONE {
+        let act = if report.outcome.is_done() {
             self.takes(kind_of((report.outcome.detail % 256) as u8), reading.bytes)
         } else {
             self.stays()
