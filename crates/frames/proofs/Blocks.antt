@@ -28,7 +28,7 @@ block_at n (suc k) zero s h = let z : n * 0 ≡ 0 = omega arith in rw z
 block_at n (suc k) (suc i) s h =
     let e : n + n * i ≡ n * suc i = omega arith in block_at n k i (drop n s) (omega arith) ∙ rw (drop-drop (n * i) n s, e)
 
-block_is : (n k i : ℕ) (s : List ℕ) (blocks : List (List ℕ)) → blocks ≡ first_chunks n k s → i < length blocks
+pub block_is : (n k i : ℕ) (s : List ℕ) (blocks : List (List ℕ)) → blocks ≡ first_chunks n k s → i < length blocks
     → get_or blocks i [] ≡ take n (drop (n * i) s)
 block_is n k i s blocks e h =
     ap (λ (l : List (List ℕ)). get_or l i []) e ∙ block_at n k i s (omega (arith, ap length e, length-first_chunks n k s))

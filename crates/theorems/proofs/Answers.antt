@@ -16,7 +16,7 @@ use borrow.Author.Tests.{eqb-true, leb-true, leb-false, le-leb, le-ltb, lt-ltb}
 use Rattle.answers.specs.declared.Outcome.{Outcome}
 use Rattle.answers.specs.Table.{Row, row, says, Verdict, done, refused, first, outcome, outcome_of, four}
 use Rattle.answers.specs.Lists.{All}
-use Rattle.answers.specs.Effect.{Effect, tested}
+use Rattle.answers.specs.Effect.{Effect, tested, or_later}
 use Rattle.answers.proofs.Lists.{all_append, all_take, all_weaken}
 use Rattle.answers.proofs.Rows.{IsRefusal, Refusals, both_refusals, Heard, nothing, something, heard, first_append, first_passed}
 use Rattle.answers.proofs.Rows.{passed_over, done_passed, given_first, first_given, row_equal, first_number, tested_passed, decides}
@@ -46,7 +46,7 @@ use Rattle.units.specs.code.Steps.{told}
 use Rattle.units.proofs.Steps.{refused_stays}
 use Rattle.reading.specs.code.Rooms.{width, most, made as made_in}
 use Rattle.answers.specs.declared.Placed.{Placed}
-use Rattle.writing.specs.Writing.{writing_bank, bank_bytes, first_bad, or_later, unless_bad}
+use Rattle.writing.specs.Writing.{writing_bank, bank_bytes, first_bad, unless_bad}
 use Rattle.pairs.specs.Pairs.{pair_rows}
 use Rattle.pairs.proofs.Pair.{pair_refusals}
 use Rattle.edit_lists.specs.Lists.{list_bytes}

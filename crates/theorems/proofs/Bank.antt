@@ -15,7 +15,8 @@ use lib.Seq.{take-append_seam, drop-drop}
 use borrow.Author.Tests.{eq-eqb, eqb-true, le-ltb, lt-ltb, ltb-false, le-leb, lt-leb}
 use Rattle.answers.specs.Lists.{All}
 use Rattle.answers.specs.Table.{Verdict, done, refused, first}
-use Rattle.answers.specs.Effect.{written}
+use Rattle.answers.specs.Effect.{written, or_later}
+use Rattle.answers.specs.code.Found.{found_or}
 use Rattle.answers.proofs.Lists.{all_weaken}
 use Rattle.answers.proofs.Rows.{done_passed}
 use Rattle.answers.specs.promises.Decides.{Silent}
@@ -34,8 +35,7 @@ use Rattle.messages.specs.Judge.{judge}
 use Rattle.messages.specs.Layout.{dump, message, given_rows}
 use Rattle.messages.proofs.Written.{Sound, sound, sound_holds}
 use Rattle.answers.specs.declared.Placed.{Placed}
-use Rattle.writing.specs.Writing.{writing_bank, bank_from, first_bad, or_later, unless_bad}
-use Rattle.writing.specs.code.Writers.{bank_tested}
+use Rattle.writing.specs.Writing.{writing_bank, bank_from, first_bad, unless_bad}
 use Rattle.writing.proofs.Laws.{length_patch, length_patch_dump, length_bank, bank_is_tested, none_bad}
 use Rattle.theorems.specs.Damage.{start_before, start_from, stream, reports_before, reports_after}
 use Rattle.theorems.specs.RoundTrips.{report_for, bank_reports, bank_sent, BankReadBack}
@@ -151,7 +151,7 @@ filed ps out e = by_length (eqb (length ps % 134) 0) (ltb 13400 (length ps)) ref
     by_bad whole few (some b) q =
         let w = bank_is_tested ps out whole few ∙ ap (λ (o : Option Placed). unless_bad o (bank_from (length ps / 134) 0 ps) out) q in
         let zero = rw w at e in
-        let n = none_bad (length ps / 134) 0 ps (ap (λ (o : Option Placed). (bank_tested o).outcome.answer) q ∙ zero) in
+        let n = none_bad (length ps / 134) 0 ps (ap (λ (o : Option Placed). (found_or o).outcome.answer) q ∙ zero) in
         let z : ◌≡◌ {A = ℕ} 0 1 = cc in
         absurd (omega arith)
 

@@ -1,26 +1,27 @@
--- The lengths of the messages and of a bank, how a bank goes on from one patch to the next, and what a writer gives by its tests.
+-- The lengths of the messages and of a bank, how a bank goes on from one patch to the next, and where its lowest bad patch stands.
 -- Each law goes by the definition it names, or by the number of patches.
-use mathlib.Core.Path.{◌≡◌, refl, ap, sym, ◌∙◌}
+use mathlib.Core.Path.{◌≡◌, refl, sym, ◌∙◌}
 use mathlib.Core.List.{List, [], ◌∷◌, ◌++◌, append_assoc, append-nil}
 use mathlib.Core.Option.{Option, none, some}
 use Prim.Native.Nat.{ℕ, zero, suc, ◌+◌, ◌*◌, ◌/◌, ◌%◌, ◌<◌, ◌≤◌}
 use native.Mathlib.Omega.{arith}
 use native.Mathlib.Numerals.{add-one}
-use lib.ListN.{length, take, drop, length-append, length-drop}
+use lib.ListN.{length, get_or, take, drop, length-append, length-drop}
 use lib.Seq.{length-take-le, drop-drop}
 use borrow.Author.Tests.{le-ltb, eq-eqb}
-use Rattle.answers.specs.Table.{row_at, row_found, Found, found, done, first, outcome}
-use Rattle.answers.specs.Effect.{Gives, told_as, tested, written}
-use Rattle.answers.proofs.Effects.{written_fits, written_short}
+use Rattle.answers.specs.Table.{row_at, row_found, Found, found, done, first}
+use Rattle.answers.specs.declared.Placed.{Placed}
+use Rattle.answers.specs.Effect.{tested, placed, or_later}
+use Rattle.answers.specs.code.Found.{found_or}
 use Rattle.answers.proofs.Rows.{first_stopped, first_zero}
+use Rattle.std.specs.Simd.{first_chunks}
+use Rattle.frames.proofs.Blocks.{block_is}
 use Rattle.nibbles.specs.Nibbles.{nibbles, sum}
 use Rattle.nibbles.proofs.Laws.{length_nibbles}
 use Rattle.patch.specs.Patch.{first_out, first_half, field_rows}
 use Rattle.patch.proofs.Tests.{field_refusals}
 use Rattle.messages.specs.Layout.{dump}
-use Rattle.writing.specs.declared.BankOutcome.{BankOutcome}
-use Rattle.writing.specs.Writing.{writing_bank, bank_from, first_bad, or_later, bank_outcome, no_place, unless_bad}
-use Rattle.writing.specs.code.Writers.{bank_tested}
+use Rattle.writing.specs.Writing.{writing_bank, bank_from, first_bad, unless_bad}
 
 -- A dump has two nibbles to a byte, and seven bytes around them.
 pub length_dump : (o n : ℕ) (p : List ℕ) → length (dump o n p) ≡ 2 * length p + 7
@@ -31,6 +32,11 @@ length_dump o n p = simp (length-append, length_nibbles) (omega arith)
 pub dump_parts : (o n : ℕ) (p : List ℕ) → dump o n p ≡ ((0xF0 ∷ 0x10 ∷ 0x06 ∷ o ∷ n ∷ []) ++ nibbles p) ++ (sum p ∷ 0xF7 ∷ [])
 unfolding dump
 dump_parts o n p = simp append_assoc
+
+-- The patch numbered k of a bank that is cut into patches.
+pub patch_in : (ps : List ℕ) (patches : List (List ℕ)) (k : ℕ) → patches ≡ first_chunks 134 (length ps / 134) ps → k < length patches
+    → get_or patches k [] ≡ take 134 (drop (k * 134) ps)
+patch_in ps patches k e h = let place : 134 * k ≡ k * 134 = omega arith in rw place at (block_is 134 (length ps / 134) k ps patches e h)
 
 -- A patch of a bank has 134 bytes.
 pub length_patch : (ps : List ℕ) (k : ℕ) → k * 134 + 134 ≤ length ps → length (take 134 (drop (k * 134) ps)) ≡ 134
@@ -71,7 +77,7 @@ bank_more n k ps = bank_split n 1 k ps ∙ rw append-nil
 
 -- A bad patch is the lowest bad one of those from it on.
 pub bad_here : (n k : ℕ) (ps : List ℕ) → ((tested (field_rows (take 134 ps))).answer ≡ 0 → ⊥)
-    → first_bad (n + 1) k ps ≡ some (bank_outcome (tested (field_rows (take 134 ps))) k)
+    → first_bad (n + 1) k ps ≡ some (placed (tested (field_rows (take 134 ps))) k)
 unfolding first_bad
 bad_here n k ps h = rw (add-one n, first_stopped (field_rows (take 134 ps)) (done 0 [] []) h)
 
@@ -87,35 +93,19 @@ unfolding writing_bank
 bank_is_tested ps out e h = rw (eq-eqb (length ps % 134) 0 e, le-ltb 13400 (length ps) h)
 
 -- A bank whose test answers 0 has no bad patch.
-pub none_bad : (n k : ℕ) (ps : List ℕ) → (bank_tested (first_bad n k ps)).outcome.answer ≡ 0 → first_bad n k ps ≡ none
+pub none_bad : (n k : ℕ) (ps : List ℕ) → (found_or (first_bad n k ps)).outcome.answer ≡ 0 → first_bad n k ps ≡ none
 unfolding first_bad
 none_bad zero k ps z = refl
 none_bad (suc n) k ps z = go (first_out (take 134 ps)) (first_half (take 134 ps)) z (none_bad n (suc k) (drop 134 ps))
   where
-    behind : Option BankOutcome
+    behind : Option Placed
     behind = first_bad n (suc k) (drop 134 ps)
 
-    from : Option Found → Option ℕ → Option BankOutcome
+    from : Option Found → Option ℕ → Option Placed
     from a b = or_later k (first (row_found 11 a ∷ row_at 12 b ∷ []) (done 0 [] [])) behind
 
-    go : (a : Option Found) (b : Option ℕ) → (bank_tested (from a b)).outcome.answer ≡ 0
-        → ((bank_tested behind).outcome.answer ≡ 0 → behind ≡ none) → from a b ≡ none
+    go : (a : Option Found) (b : Option ℕ) → (found_or (from a b)).outcome.answer ≡ 0
+        → ((found_or behind).outcome.answer ≡ 0 → behind ≡ none) → from a b ≡ none
     go none none z rest = rest z
     go none (some d) z rest = absurd (omega arith)
     go (some (found d v)) b z rest = absurd (omega arith)
-
--- A bad patch refuses the bank, and every byte is kept.
-pub gives_bad : (f : Option BankOutcome) (bytes out : List ℕ) (r : BankOutcome) → r ≡ bank_tested f → (r.outcome.answer ≡ 0 → ⊥)
-    → Gives (unless_bad f bytes out) r out
-gives_bad none bytes out r e n = absurd (n (ap (λ (o : BankOutcome). o.outcome.answer) e))
-gives_bad (some b) bytes out r e n = record { result = e; lent = refl }
-
--- A bank that does not fit is refused by 13, and every byte is kept.
-pub bank_short : (bytes out : List ℕ) (m : ℕ) (r : BankOutcome) → length bytes ≡ m → length out < m → r ≡ no_place (outcome 13 0)
-    → Gives (told_as no_place (written [] bytes out)) r out
-bank_short bytes out m r l h e = rw (written_short [] bytes out tt (omega arith)) (record { result = e; lent = refl })
-
--- A bank that fits is written, and the bytes behind it kept.
-pub bank_written : (bytes out after : List ℕ) (m : ℕ) (r : BankOutcome) → length bytes ≡ m → m ≤ length out → after ≡ bytes ++ drop m out
-    → r ≡ no_place (outcome 0 m) → Gives (told_as no_place (written [] bytes out)) r after
-bank_written bytes out after m r l h w e = rw (written_fits [] bytes out tt (omega arith), l) (record { result = e; lent = w })

@@ -1,71 +1,68 @@
 use mathlib.Core.Path.{◌≡◌, ap, sym, ◌∙◌}
-use mathlib.Core.List.{List}
+use mathlib.Core.List.{List, []}
 use mathlib.Core.Option.{none}
-use Prim.Native.Nat.{ℕ, ◌+◌, ◌-◌, ◌*◌, ◌/◌}
+use Prim.Native.Nat.{ℕ, ◌+◌, ◌-◌, ◌*◌, ◌/◌, ◌<◌}
 use native.Mathlib.Omega.{arith}
-use lib.ListN.{length, take, drop, length-take, length-drop}
+use lib.ListN.{length, get_or, take, drop}
 use lib.Seq.{drop-drop}
-use Rattle.answers.specs.Effect.{tested}
+use Rattle.std.specs.Simd.{first_chunks}
 use Rattle.answers.specs.declared.Outcome.{Outcome}
-use Rattle.patch.specs.Patch.{field_rows}
+use Rattle.answers.specs.Table.{outcome}
+use Rattle.answers.specs.Effect.{tested, placed}
+use Rattle.answers.specs.code.Found.{found_or}
+use Rattle.answers.proofs.Refusals.{never_done}
+use Rattle.patch.specs.Patch.{field_rows, patch_rows}
 use Rattle.patch.proofs.Tests.{fields_tested}
-use Rattle.writing.specs.Writing.{first_bad, bank_outcome}
-use Rattle.writing.specs.code.Writers.{bank_tested}
-use Rattle.writing.proofs.Laws.{bad_here, bad_next}
-use Rattle.writing.proofs.test_bank.Goals.{After-test-outcome}
+use Rattle.writing.specs.Writing.{first_bad}
+use Rattle.writing.proofs.Laws.{patch_in, length_patch, bad_here, bad_next}
 use Rattle.writing.proofs.test_bank.Goals as goal
 
-pub loop-k-init : goal.loop-k-init
-loop-k-init c =
-    let n = length c.args.ps.now / 134 in
-    let whole : n - 0 ≡ n = omega arith in
-    (omega arith, rw whole)
+-- The patch numbered k is tested; those before it have passed.
+module _ (ps : List ℕ) (patches : List (List ℕ)) (k : ℕ) (front : patches ≡ first_chunks 134 (length ps / 134) ps)
+    (count : length patches ≡ length ps / 134) (within : k < length patches) where
+  abbrev left : List ℕ
+  left = drop (k * 134) ps
 
--- The bank, the number of the patch at hand, the bytes from it on, and how many patches are behind it.
+  abbrev Left : ℕ → Type 0
+  Left k = first_bad (length ps / 134) 0 ps ≡ first_bad (length ps / 134 - k) k (drop (k * 134) ps)
 
-abbrev left : After-test-outcome → List ℕ
-left t = drop (t.loop-k.k * 134) t.args.ps.now
+  answered : (o : Outcome) → o ≡ tested (patch_rows (get_or patches k [])) → o ≡ tested (field_rows (take 134 left))
+  answered o q = (rw (patch_in ps patches k front within) at q) ∙ fields_tested (take 134 left) (length_patch ps k (omega arith))
 
-abbrev behind : After-test-outcome → ℕ
-behind t = length t.args.ps.now / 134 - (t.loop-k.k + 1)
+  from_here : Left k → first_bad (length ps / 134) 0 ps ≡ first_bad (length ps / 134 - (k + 1) + 1) k left
+  from_here l = let one : length ps / 134 - k ≡ length ps / 134 - (k + 1) + 1 = omega arith in l ∙ ap (λ (m : ℕ). first_bad m k left) one
 
--- What the patch at hand was answered.
+  -- It is the lowest bad one, or leaves it to those behind it.
+  stopped : Left k → (o : Outcome) → o ≡ tested (patch_rows (get_or patches k [])) → (o.answer ≡ 0 → ⊥)
+      → placed o k ≡ found_or (first_bad (length ps / 134) 0 ps)
+  stopped l o q n =
+      let e = answered o q in
+      let here = bad_here (length ps / 134 - (k + 1)) k left (λ z. n (ap (λ (o : Outcome). o.answer) e ∙ z)) in
+      ap (λ (o : Outcome). placed o k) e ∙ sym (ap found_or (from_here l ∙ here))
 
-answered : (t : After-test-outcome) → t.test-outcome.result ≡ tested (field_rows (take 134 (left t)))
-answered t =
-    let k = t.loop-k.k in
-    let one : k * 134 + 134 - k * 134 ≡ 134 = omega arith in
-    let room : length (take 134 (left t)) ≡ 134 =
-    omega (arith, length-take 134 (left t), length-drop (k * 134) t.args.ps.now, t.loop-k-test.true) in
-    rw one at t.test-outcome.ensures ∙ fields_tested (take 134 (left t)) room
+  passed : Left k → outcome 0 0 ≡ tested (patch_rows (get_or patches k [])) → Left (k + 1)
+  passed l q =
+      let more : k * 134 + 134 ≡ (k + 1) * 134 = omega arith in
+      let next = bad_next (length ps / 134 - (k + 1)) k left (sym (ap (λ (o : Outcome). o.answer) (answered (outcome 0 0) q))) in
+      from_here l ∙ next ∙ rw (drop-drop 134 (k * 134) ps, more)
 
--- The lowest bad patch stands here or behind.
+pub returns-in-Err : goal.returns-in-Err
+returns-in-Err c =
+    let all = c.as_chunks in
+    stopped c.args.ps.now all.result.0.now c.loop-place.place all.ensures.front all.ensures.front_len c.loop-place-test.true
+    c.loop-place.invariant _ c.in-Err.ensures (never_done c.in-Err.refusal)
 
-from_here : (t : After-test-outcome) → first_bad (length t.args.ps.now / 134) 0 t.args.ps.now ≡ first_bad (behind t + 1) t.loop-k.k (left t)
-from_here t =
-    let one : length t.args.ps.now / 134 - t.loop-k.k ≡ behind t + 1 = omega (arith, t.loop-k-test.true) in
-    t.loop-k.invariant.1 ∙ ap (λ (m : ℕ). first_bad m t.loop-k.k (left t)) one
-
-pub returns-then-outcome-ne-DONE : goal.returns-then-outcome-ne-DONE
-returns-then-outcome-ne-DONE c =
-    let s = (goal.at.returns-then-outcome-ne-DONE c).After-test-outcome in
-    let e = answered s in
-    let here = bad_here (behind s) c.loop-k.k (left s) (λ z. c.if-outcome-ne-DONE.true (ap (λ (o : Outcome). o.answer) e ∙ z)) in
-    ap (λ (o : Outcome). bank_outcome o c.loop-k.k) e ∙ sym (ap bank_tested (from_here s ∙ here))
-
-pub loop-k-preserved : goal.loop-k-preserved
-loop-k-preserved c =
-    let s = (goal.at.loop-k-preserved c).After-test-outcome in
-    let e = answered s in
-    let next = bad_next (behind s) c.loop-k.k (left s) (sym (ap (λ (o : Outcome). o.answer) e) ∙ c.if-outcome-ne-DONE.false) in
-    let more : c.loop-k.k * 134 + 134 ≡ (c.loop-k.k + 1) * 134 = omega arith in
-    (omega arith, from_here s ∙ next ∙ rw (drop-drop 134 (c.loop-k.k * 134) c.args.ps.now, more))
+pub loop-place-preserved : goal.loop-place-preserved
+loop-place-preserved c =
+    let all = c.as_chunks in
+    passed c.args.ps.now all.result.0.now c.loop-place.place all.ensures.front all.ensures.front_len c.loop-place-test.true
+    c.loop-place.invariant c.in_default.ensures
 
 pub returns : goal.returns
 unfolding first_bad
 returns c =
-    let at = c.loop-k in
     let ps = c.args.ps.now in
-    let end : length ps / 134 - at.k ≡ 0 = omega arith in
-    let none_left : first_bad (length ps / 134 - at.k) at.k (drop (at.k * 134) ps) ≡ none = rw end in
-    rw (c.no_place.ensures, c.done.ensures) (sym (ap bank_tested (at.invariant.1 ∙ none_left)))
+    let k = c.loop-place.place in
+    let end : length ps / 134 - k ≡ 0 = omega (arith, c.as_chunks.ensures.front_len) in
+    let none_left : first_bad (length ps / 134 - k) k (drop (k * 134) ps) ≡ none = rw end in
+    sym (ap found_or (c.loop-place.invariant ∙ none_left))

@@ -1,65 +1,67 @@
 -- The length, every patch and the room are tested in this order, and then the bank is written: each return is a case of `writing_bank`.
 use mathlib.Core.Path.{◌≡◌, refl, ap, sym, ◌∙◌}
 use mathlib.Core.List.{List, []}
-use Prim.Native.Nat.{ℕ, ◌*◌, ◌/◌}
+use Prim.Native.Nat.{ℕ, ◌*◌, ◌/◌, ◌%◌, ◌≤◌}
 use native.Mathlib.Omega.{arith}
 use lib.ListN.{length}
 use borrow.Author.Tests.{eq-eqb, ne_eqb, lt-ltb}
-use Rattle.answers.specs.Effect.{told_as, written}
-use Rattle.writing.specs.declared.BankOutcome.{BankOutcome}
-use Rattle.writing.specs.Writing.{writing_bank, bank_from, first_bad, no_place, unless_bad}
-use Rattle.writing.proofs.Laws.{length_bank, bank_is_tested, none_bad, gives_bad, bank_short, bank_written}
-use Rattle.writing.proofs.write_bank.Goals.{After-test_bank-tested}
+use Rattle.std.proofs.lemmas.Result.{err_from_is_err_and}
+use Rattle.answers.specs.declared.Placed.{Placed}
+use Rattle.answers.specs.Table.{outcome}
+use Rattle.answers.specs.Effect.{told_as, written, no_place}
+use Rattle.answers.specs.code.Found.{found_or}
+use Rattle.answers.proofs.Refusals.{never_done}
+use Rattle.answers.proofs.Effects.{gives_placed, placed_short, placed_written}
+use Rattle.writing.specs.Writing.{writing_bank, bank_bytes, first_bad}
+use Rattle.writing.proofs.Laws.{length_bank, bank_is_tested, none_bad}
+use Rattle.writing.proofs.write_bank.Goals.{then-ps-ne0-via-then-ps-ne0, then-ps-ne0-via-else-ps-ne0+then-ps-gt-BANK}
 use Rattle.writing.proofs.write_bank.Goals as goal
 
 pub returns-then-ps-ne0 : goal.returns-then-ps-ne0
 unfolding writing_bank
-returns-then-ps-ne0 c = rw (ne_eqb _ 0 c.if-ps-ne0.true) (record { result = rw c.refused.ensures at c.no_place.ensures; lent = refl })
-
-pub returns-then-ps-gt-BANK : goal.returns-then-ps-gt-BANK
-unfolding writing_bank
-returns-then-ps-gt-BANK c =
-    rw (eq-eqb _ 0 c.if-ps-ne0.false, lt-ltb 13400 _ c.if-ps-gt-BANK.true)
-    (record { result = rw c.refused-then-ps-gt-BANK.ensures at c.no_place-then-ps-gt-BANK.ensures; lent = refl })
-
-abbrev count : After-test_bank-tested → ℕ
-count t = length t.args.ps.now / 134
-
-abbrev bytes : After-test_bank-tested → List ℕ
-bytes t = bank_from (count t) 0 t.args.ps.now
+returns-then-ps-ne0 c =
+    rw c.into.ensures
+    (elim c.then-ps-ne0.branch [
+      | then-ps-ne0-via-then-ps-ne0 w ↦ rw (ne_eqb _ 0 w.if-ps-ne0.true) (record { result = refl; lent = refl })
+      | then-ps-ne0-via-else-ps-ne0+then-ps-gt-BANK w ↦
+          rw (eq-eqb _ 0 w.if-ps-ne0.false, lt-ltb 13400 _ w.if-ps-gt-BANK.true) (record { result = refl; lent = refl })
+    ])
 
 -- The length has passed.
+module _ (ps out : List ℕ) (whole : length ps % 134 ≡ 0) (few : length ps ≤ 13400) where
+  -- Every patch has passed.
+  all_tested : no_place (outcome 0 0) ≡ found_or (first_bad (length ps / 134) 0 ps)
+      → writing_bank ps out ≡ told_as no_place (written [] (bank_bytes ps) out)
+  all_tested e =
+      let n = none_bad (length ps / 134) 0 ps (sym (ap (λ (o : Placed). o.outcome.answer) e)) in
+      bank_is_tested ps out whole few ∙ rw n
 
-so_far : (t : After-test_bank-tested) → writing_bank t.args.ps.now t.args.out.now ≡ unless_bad (first_bad (count t) 0 t.args.ps.now) (bytes t) t.args.out.now
-so_far t = bank_is_tested t.args.ps.now t.args.out.now t.if-ps-ne0.false t.if-ps-gt-BANK.false
+  size : length (bank_bytes ps) ≡ length ps / 134 * 275
+  size = length_bank (length ps / 134) 0 ps (omega arith)
 
--- Every patch has passed.
-
-all_tested : (t : After-test_bank-tested) → t.test_bank-tested.result.outcome.answer ≡ 0
-    → writing_bank t.args.ps.now t.args.out.now ≡ told_as no_place (written [] (bytes t) t.args.out.now)
-all_tested t z =
-    let e = none_bad (count t) 0 t.args.ps.now (sym (ap (λ (o : BankOutcome). o.outcome.answer) t.test_bank-tested.ensures) ∙ z) in
-    so_far t ∙ rw e
-
-size : (t : After-test_bank-tested) → length (bytes t) ≡ count t * 275
-size t = length_bank (count t) 0 t.args.ps.now (omega arith)
-
-pub returns-then-tested-ne-DONE : goal.returns-then-tested-ne-DONE
-returns-then-tested-ne-DONE c =
-    let s = (goal.at.returns-then-tested-ne-DONE c).After-test_bank-tested in
-    rw (so_far s) (gives_bad (first_bad (count s) 0 c.args.ps.now) (bytes s) c.args.out.now c.test_bank-tested.result c.test_bank-tested.ensures c.if-tested-ne-DONE.true)
+pub returns-in_err-test_bank : goal.returns-in_err-test_bank
+returns-in_err-test_bank c =
+    let ps = c.args.ps.now in
+    let out = c.args.out.now in
+    let q = err_from_is_err_and c.from_residual.result c.from_residual.ensures.1 in
+    rw (q.1, q.2, bank_is_tested ps out c.if-ps-ne0.false c.if-ps-gt-BANK.false)
+    (gives_placed (first_bad (length ps / 134) 0 ps) out (told_as no_place (written [] (bank_bytes ps) out)) _ c.in_err-test_bank.ensures
+    (never_done c.in_err-test_bank.field-0.0.refusal))
 
 pub returns-then-out-size : goal.returns-then-out-size
 returns-then-out-size c =
-    let s = (goal.at.returns-then-out-size c).After-test_bank-tested in
-    let told = rw c.refused-then-out-size.ensures at c.no_place-then-out-size.ensures in
-    rw (all_tested s c.if-tested-ne-DONE.false)
-    (bank_short (bytes s) c.args.out.now (count s * 275) c.no_place-then-out-size.result (size s) c.if-out-size.true told)
+    let ps = c.args.ps.now in
+    let out = c.args.out.now in
+    let whole = c.if-ps-ne0.false in
+    let few = c.if-ps-gt-BANK.false in
+    rw (all_tested ps out whole few c.in_ok-test_bank.ensures, c.into-then-out-size.ensures)
+    (placed_short [] (bank_bytes ps) out (length ps / 134 * 275) _ (size ps out whole few) tt c.if-out-size.true refl)
 
 pub returns : goal.returns
 returns c =
-    let s = (goal.at.returns c).After-test_bank-tested in
-    let told = rw c.done.ensures at c.no_place-2.ensures in
-    rw (all_tested s c.if-tested-ne-DONE.false)
-    (bank_written (bytes s) c.args.out.now c.put_bank.new.out (count s * 275) c.no_place-2.result (size s) c.if-out-size.false
-    c.put_bank.ensures told)
+    let ps = c.args.ps.now in
+    let out = c.args.out.now in
+    let whole = c.if-ps-ne0.false in
+    let few = c.if-ps-gt-BANK.false in
+    rw (all_tested ps out whole few c.in_ok-test_bank.ensures)
+    (placed_written [] (bank_bytes ps) out c.put_bank.new.out (length ps / 134 * 275) _ (size ps out whole few) tt c.if-out-size.false c.put_bank.ensures refl)

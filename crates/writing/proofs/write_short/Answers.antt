@@ -1,114 +1,78 @@
 -- The bytes and the room are tested in this order, and then the message is written, part after part: each return is a case of `writing`.
 use mathlib.Core.Path.{◌≡◌, refl, ap, ◌∙◌}
-use mathlib.Core.List.{List, [], ◌∷◌, ◌++◌}
-use Prim.Native.Nat.{ℕ, ◌+◌, ◌-◌}
+use mathlib.Core.List.{List, [], ◌∷◌, ◌++◌, append_assoc}
+use Prim.Native.Nat.{ℕ, ◌+◌, ◌-◌, ◌≤◌}
 use native.Mathlib.Omega.{arith}
-use lib.ListN.{length, length-append, length-drop, length-set}
-use borrow.Rule.Slice.PartMut.{put_mid, same_len_mid}
-use Rattle.answers.specs.Table.{Row}
-use Rattle.answers.proofs.Lists.{to_end, put_next, then_part}
-use Rattle.answers.proofs.Rows.{row_equal}
-use Rattle.answers.proofs.Effects.{passed, gives_stopped, gives_short, gives_written}
+use lib.Dec.{T}
+use lib.ListN.{length, drop, set, length-append}
+use lib.Seq.{drop-drop}
+use borrow.Rule.Slice.PartMut.{put_mid}
+use Rattle.std.proofs.lemmas.Result.{err_from_is_err_and}
+use Rattle.answers.specs.Table.{outcome}
+use Rattle.answers.specs.Effect.{tested, at_start}
 use Rattle.answers.specs.promises.Decides.{Silent}
+use Rattle.answers.proofs.Lists.{put_next}
+use Rattle.answers.proofs.Rows.{row_equal}
+use Rattle.answers.proofs.Refusals.{never_done, done_silent}
+use Rattle.answers.proofs.Effects.{gives_stopped, gives_short, gives_written}
+use Rattle.messages.specs.declared.kinds.Short.{Short}
 use Rattle.messages.specs.declared.kinds.Kind.TheVariants.{Short as of_short}
 use Rattle.messages.specs.Kinds.{count_of}
 use Rattle.messages.specs.Judge.{lent_operand_rows}
 use Rattle.messages.specs.Layout.{message_of}
+use Rattle.messages.specs.code.Sizes.{sized}
 use Rattle.messages.proofs.Filed.{is_sized}
 use Rattle.messages.proofs.Numbers.{given_refusals}
-use Rattle.writing.proofs.write_short.Goals.{After-put_bytes, After-put_opening, After-test_operands-tested}
 use Rattle.writing.proofs.write_short.Goals as goal
 
-abbrev rows : After-test_operands-tested → List Row
-rows t = lent_operand_rows t.args.kind.operands t.args.bytes.now
+-- Bytes that passed their tests.
+module _ (k : Short) (b : List ℕ) (e : outcome 0 0 ≡ tested (lent_operand_rows k.operands b)) where
+  silent : Silent (lent_operand_rows k.operands b)
+  silent = done_silent (lent_operand_rows k.operands b) 0 (given_refusals (of_short k) b []) e
 
-abbrev message : After-test_operands-tested → List ℕ
-message t = message_of t.args.kind.opcode t.args.bytes.now
+  -- They are as many as the description says, so the message is as long.
+  counted : T (sized (of_short k)) → k.length ≡ 5 + length b
+  counted s =
+      let whole = row_equal 7 (length b) (count_of k.operands) silent.0 in
+      omega (arith, (is_sized (of_short k) s).0)
 
-abbrev opening : After-test_operands-tested → List ℕ
-opening t = 0xF0 ∷ 0x10 ∷ 0x06 ∷ t.args.kind.opcode ∷ []
+  size : T (sized (of_short k)) → length (message_of k.opcode b) ≡ k.length
+  size s = omega (arith, length-append b (0xF7 ∷ []), counted s)
 
-silent : (t : After-test_operands-tested) → t.test_operands-tested.result.answer ≡ 0 → Silent (rows t)
-silent t z = passed (rows t) t.test_operands-tested.result (given_refusals (of_short t.args.kind) t.args.bytes.now []) t.test_operands-tested.ensures z
+-- A message that is written in three parts: its first four bytes, its own bytes, and the last.
+in_parts : (opcode : ℕ) (b out : List ℕ) (end : ℕ) → end ≡ 4 + length b → end + 1 ≤ length out
+    → set (put_mid 4 (end - 4) ((0xF0 ∷ 0x10 ∷ 0x06 ∷ opcode ∷ []) ++ drop 4 out) b) end 0xF7 ≡ at_start (message_of opcode b) out
+in_parts opcode b out end e room =
+    let head = 0xF0 ∷ 0x10 ∷ 0x06 ∷ opcode ∷ [] in
+    let n : end - 4 ≡ length b = omega arith in
+    let own : put_mid 4 (end - 4) (head ++ drop 4 out) b ≡ (head ++ b) ++ drop end out = rw (n, e, drop-drop (length b) 4 out) refl in
+    let lo : length (head ++ b) ≡ end = omega (arith, length-append head b) in
+    let whole : end + 1 ≡ length (message_of opcode b) = omega (arith, length-append b (0xF7 ∷ [])) in
+    ap (λ (xs : List ℕ). set xs end 0xF7) own ∙ put_next (head ++ b) out end 0xF7 lo (omega arith) ∙ rw (whole, append_assoc) refl
 
--- The bytes are as many as the description says, so the message is as long.
+pub returns-in_err-test_operands : goal.returns-in_err-test_operands
+returns-in_err-test_operands c =
+    let k = c.args.kind in
+    let b = c.args.bytes.now in
+    let q = err_from_is_err_and c.from_residual.result c.from_residual.ensures.1 in
+    rw (q.1, q.2)
+    (gives_stopped (lent_operand_rows k.operands b) (message_of k.opcode b) c.args.out.now _ c.in_err-test_operands.ensures
+    (never_done c.in_err-test_operands.field-0.0))
 
-counted : (t : After-test_operands-tested) → t.test_operands-tested.result.answer ≡ 0 → t.args.kind.length ≡ 5 + length t.args.bytes.now
-counted t z =
-    let whole = row_equal 7 (length t.args.bytes.now) (count_of t.args.kind.operands) (silent t z).0 in
-    omega (arith, (is_sized (of_short t.args.kind) t.requires).0)
-
-size : (t : After-test_operands-tested) → t.test_operands-tested.result.answer ≡ 0 → length (message t) ≡ t.args.kind.length
-size t z = omega (arith, length-append t.args.bytes.now (0xF7 ∷ []), counted t z)
-
-pub returns-then-tested-ne-DONE : goal.returns-then-tested-ne-DONE
-returns-then-tested-ne-DONE c =
-    let s = (goal.at.returns-then-tested-ne-DONE c).After-test_operands-tested in
-    gives_stopped (rows s) (message s) c.args.out.now c.test_operands-tested.result c.test_operands-tested.ensures c.if-tested-ne-DONE.true
-
-pub returns-then-out-length : goal.returns-then-out-length
-returns-then-out-length c =
-    let s = (goal.at.returns-then-out-length c).After-test_operands-tested in
-    let z = c.if-tested-ne-DONE.false in
-    gives_short (rows s) (message s) c.args.out.now c.args.kind.length c.refused.result (size s z) (silent s z) c.if-out-length.true c.refused.ensures
-
--- The message fits.
-
-pub put_opening-requires : goal.put_opening-requires
-put_opening-requires c = omega (arith, counted (goal.at.put_opening-requires c).After-test_operands-tested c.if-tested-ne-DONE.false, c.if-out-length.false)
-
--- Behind the opening: what was tested, that the message fits, and the output so far.
-
-long : (o : After-put_opening) → (h1 : o.test_operands-tested.result.answer ≡ 0 → o.args.kind.length ≡ 5 + length o.args.bytes.now) → o.args.kind.length ≡ 5 + length o.args.bytes.now
-long o h1 = h1 o.if-tested-ne-DONE.false
-
-pub slice_bounds-put_bytes-count : goal.slice_bounds-put_bytes-count
-slice_bounds-put_bytes-count c =
-    omega (arith, long (goal.at.slice_bounds-put_bytes-count c).After-put_opening (counted (goal.at.slice_bounds-put_bytes-count c).After-test_operands-tested), c.if-out-length.false, c.put_opening.auto.out)
-
-pub put_bytes-requires : goal.put_bytes-requires
-put_bytes-requires c =
-    let xs = c.put_opening.new.out in
-    omega (arith, ap length (to_end 4 xs), length-drop 4 xs, long (goal.at.put_bytes-requires c).After-put_opening (counted (goal.at.put_bytes-requires c).After-test_operands-tested), c.if-out-length.false, c.put_opening.auto.out)
-
--- The output behind the opening and the bytes.
-
-abbrev after_bytes : After-put_bytes → List ℕ
-after_bytes w = let xs = w.put_opening.new.out in put_mid 4 (length xs - 4) xs w.put_bytes.new.out
-
-same_long : (w : After-put_bytes) → length (after_bytes w) ≡ length w.args.out.now
-same_long w =
-    let xs = w.put_opening.new.out in
-    same_len_mid 4 (length xs - 4) xs w.put_bytes.new.out w.put_bytes.auto.out ∙ w.put_opening.auto.out
-
-pub bounds-out-length : goal.bounds-out-length
-bounds-out-length c =
-    omega (arith, long (goal.at.bounds-out-length c).After-put_opening (counted (goal.at.bounds-out-length c).After-test_operands-tested), c.if-out-length.false, same_long (goal.at.bounds-out-length c).After-put_bytes)
-
-pub shape_of-out : goal.shape_of-out
-shape_of-out c =
-    let s = (goal.at.shape_of-out c).After-put_bytes in
-    length-set (after_bytes s) (c.args.kind.length - 1) 0xF7 ∙ same_long s
+pub returns-then-out-kind : goal.returns-then-out-kind
+returns-then-out-kind c =
+    let k = c.args.kind in
+    let b = c.args.bytes.now in
+    let e = c.in_ok-test_operands.ensures in
+    gives_short (lent_operand_rows k.operands b) (message_of k.opcode b) c.args.out.now k.length _ (size k b e c.requires) (silent k b e)
+    c.if-out-kind.true refl
 
 pub returns : goal.returns
 returns c =
-    let s = (goal.at.returns c).After-test_operands-tested in
-    let z = c.if-tested-ne-DONE.false in
-    let room = c.if-out-length.false in
-    let n = 4 + length c.args.bytes.now in
-    let whole = long (goal.at.returns c).After-put_opening (counted s) in
-    let parts =
-    then_part (opening s) c.args.bytes.now c.args.out.now c.put_opening.new.out c.put_bytes.new.out 4 (length c.args.bytes.now) refl refl (omega arith)
-    c.put_opening.ensures c.put_bytes.ensures in
-    let end : c.args.kind.length - 1 ≡ n = omega arith in
-    let last : n + 1 ≡ length (message s) = omega (arith, size s z) in
-    let lo : length (opening s ++ c.args.bytes.now) ≡ n = omega (arith, length-append (opening s) c.args.bytes.now) in
-    let closed = put_next (opening s ++ c.args.bytes.now) c.args.out.now n 0xF7 lo (omega arith) in
-    gives_written (rows s) (message s) c.args.out.now _ c.args.kind.length c.done.result (size s z) (silent s z) room c.done.ensures
-    (rw (end, parts, closed, last))
-
-pub slice_bounds-put_bytes-start : goal.slice_bounds-put_bytes-start
-slice_bounds-put_bytes-start c = slice_bounds-put_bytes-count c
-
-pub overflow_sub-out : goal.overflow_sub-out
-overflow_sub-out c = omega (arith, long (goal.at.overflow_sub-out c).After-put_opening (counted (goal.at.overflow_sub-out c).After-test_operands-tested))
+    let k = c.args.kind in
+    let b = c.args.bytes.now in
+    let e = c.in_ok-test_operands.ensures in
+    let long = counted k b e c.requires in
+    let parts = in_parts k.opcode b c.args.out.now (k.length - 1) (omega arith) (omega (arith, c.if-out-kind.false)) in
+    gives_written (lent_operand_rows k.operands b) (message_of k.opcode b) c.args.out.now _ k.length _ (size k b e c.requires) (silent k b e)
+    c.if-out-kind.false refl (rw (c.copy_from_slice.ensures.after, c.put_opening.ensures) parts)
