@@ -16,7 +16,7 @@ ghost use Rattle.plan.specs.Said.{parameter_line, bus_values, bus_line, change_l
 ghost use Rattle.plan.specs.code.Written.{room_most, finding, Says};
 
 use answers::{DONE, NO_MESSAGE, Outcome};
-use fields::{AMOUNT_AT, BytePlace, DESTINATION_AT, FoundParameter, SOURCE_AT};
+use fields::{BytePlace, FoundParameter, SOURCE_AT};
 use frames::END;
 use listing::MOST;
 use messages::kinds::{EditBuffer, PATCH, SinglePatch};
@@ -37,7 +37,7 @@ const LONGEST: usize = 762;
 
 const WANTS_LINES: u8 = 1;
 
-// What a file comes to where it is not one accepted patch dump.
+// What a file comes to that is not one accepted patch dump.
 #[derive(Clone, Copy)]
 pub enum Wrong {
     TooLong,

@@ -79,6 +79,7 @@ pub fn plan(a: &[u8], b: &[u8], out: &mut [u8]) -> Outcome
     if pair.answer != DONE {
         return pair;
     }
+    // Both have passed their tests, the first of which is the length.
     let a: &[u8; PATCH] = a.try_into().unwrap();
     let b: &[u8; PATCH] = b.try_into().unwrap();
     let size = list_size(a, b);
