@@ -72,6 +72,7 @@ pub fn check_plan(a: &[u8], b: &[u8], list: &[u8]) -> Result<(), Refusal>
     ensures { told_test result ≡ checking a.now b.now list.now }
 {
     pairs::test_pair(a, b)?;
+    // A patch of our own: it has passed its tests, the first of which is the length.
     let mut p: [u8; PATCH] = a.try_into().unwrap();
     if !turn(&mut p, list) || !same(&p, b) {
         return Err(Refusal::NotAccepted);

@@ -38,7 +38,7 @@ const LONGEST: usize = 762;
 
 const WANTS_LINES: u8 = 1;
 
-// What a file comes to where it is not one accepted patch dump.
+// What a file comes to that is not one accepted patch dump.
 #[derive(Clone, Copy)]
 pub enum Wrong {
     TooLong,

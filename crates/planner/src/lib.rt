@@ -77,6 +77,7 @@ pub fn plan(a: &[u8], b: &[u8], out: &mut [u8]) -> Result<usize, Refusal>
     ensures { Gives (planning a.now b.now out.old) (told result) out.new }
 {
     pairs::test_pair(a, b)?;
+    // Both have passed their tests, the first of which is the length.
     let a: &[u8; PATCH] = a.try_into().unwrap();
     let b: &[u8; PATCH] = b.try_into().unwrap();
     let size = list_size(a, b);

@@ -79,6 +79,7 @@ impl<'a> Iterator for Differing<'a> {
 
     ghost remaining = { item_count left };
 
+    // The place is counted by hand, since a step is one byte or three: this is the one walk over the parts.
     fn next(&mut self) -> Option<Part> {
         while self.at < PATCH {
             let part = Part { place: self.at };
