@@ -1,12 +1,12 @@
 // Prints the reports of the messages on standard input, a line each: start, end, answer, detail, value and noise; behind one with answer 0,
-// the four bytes that come with its record. Each is asked of the cursor crate, from the last end.
+// the four bytes that come with its record. Each is asked of a cursor, which then stands at its end.
 #![tactic(auto)]
 
 ghost use Rattle.answers.specs.Table.{four};
 ghost use Rattle.text.specs.Text.{Gains};
 ghost use Rattle.cursor_main.specs.Records.{record_line};
 
-use answers::{DONE, NO_MESSAGE};
+use cursor::Cursor;
 use messages::kinds::MASTER;
 use reading::recording::Reading;
 use reading::walking::Report;
@@ -24,18 +24,17 @@ fn put_record(text: &mut Text, r: Reading)
     text.put_number(last as usize, b'\n');
 }
 
-// The record of the message at a place.
-fn print_record(s: &[u8], place: usize, text: &mut Text, out: &mut impl Write) -> io::Result<()> {
+// The record of the message at a cursor.
+fn print_record(cursor: Cursor, text: &mut Text, out: &mut impl Write) -> io::Result<()> {
     let mut buffer = [0u8; MASTER];
     text.clear();
-    put_record(text, cursor::read_from(s, place, &mut buffer));
+    put_record(text, cursor.read_record(&mut buffer));
     out.write_all(text.as_bytes())
 }
 
-// A report of the message at a place, and its record if it has one.
+// A report of the message at a cursor, and its record if it has one.
 fn print_report(
-    s: &[u8],
-    place: usize,
+    cursor: Cursor,
     r: Report,
     text: &mut Text,
     out: &mut impl Write,
@@ -43,22 +42,22 @@ fn print_report(
     text.clear();
     listing::put_report(text, r);
     out.write_all(text.as_bytes())?;
-    if r.outcome.answer == DONE {
-        print_record(s, place, text, out)?;
+    if r.outcome.is_done() {
+        print_record(cursor, text, out)?;
     }
     Ok(())
 }
 
 // The reports of an input. Each message has a byte at least, so there are no more than bytes.
 fn print_reports(s: &[u8], text: &mut Text, out: &mut impl Write) -> io::Result<()> {
-    let mut place: usize = 0;
+    let mut cursor = Cursor::over(s);
     for _ in 0..s.len() {
-        let r = cursor::report_from(s, place);
-        if r.outcome.answer == NO_MESSAGE {
+        let r = cursor.next();
+        if !r.is_found() {
             return Ok(());
         }
-        print_report(s, place, r, text, out)?;
-        place = r.end;
+        print_report(cursor, r, text, out)?;
+        cursor = cursor.moved(r.end);
     }
     Ok(())
 }

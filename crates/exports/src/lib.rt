@@ -38,6 +38,16 @@ use units::{Step, Unit};
 // A byte that no place and no parameter is.
 const NONE: u8 = 255;
 
+// A remote edit, whose two bytes C hands over by themselves.
+fn remote(parameter: u8, value: u8) -> Remote
+    ensures { (result.parameter.0 ≡ parameter) × (result.value ≡ value) }
+{
+    Remote {
+        parameter: Parameter(parameter),
+        value,
+    }
+}
+
 // The walk.
 #[unsafe(no_mangle)]
 pub extern "C" fn matrix_walk(s: &[u8], place: usize) -> Report
@@ -165,11 +175,7 @@ pub extern "C" fn matrix_show_name(p: &[u8], out: &mut [u8]) -> Outcome
 pub extern "C" fn matrix_apply_edit(p: &mut [u8], parameter: u8, value: u8) -> Outcome
     ensures { Gives (applying parameter value p.old) result p.new }
 {
-    let edit = Remote {
-        parameter: Parameter(parameter),
-        value,
-    };
-    edit.apply(p).into()
+    remote(parameter, value).apply(p).into()
 }
 
 // Applies a matrix modulation edit to a patch.
@@ -229,11 +235,7 @@ pub extern "C" fn matrix_write_master(m: &[u8], out: &mut [u8]) -> Outcome
 pub extern "C" fn matrix_write_edit(parameter: u8, value: u8, out: &mut [u8]) -> Outcome
     ensures { Gives (writing (of_short remote_edit) (parameter ∷ value ∷ []) [] out.old) result out.new }
 {
-    let edit = Remote {
-        parameter: Parameter(parameter),
-        value,
-    };
-    writing::write_edit(edit, out).into()
+    writing::write_edit(remote(parameter, value), out).into()
 }
 
 // Writes a matrix modulation edit.
