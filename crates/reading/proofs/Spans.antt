@@ -80,7 +80,8 @@ module _ (t : List ℕ) where
 
   -- Its record, with its places and its noise.
   placed : (f e n : ℕ) (v : Verdict) (lent : List ℕ) (j : Judged) (after : List ℕ) → Gives (recorded_as v lent) j after
-      → Gives (told_as reading_of (read_into f e v n lent)) (record { report = record { start = f; end = e; outcome = j.outcome; noise = n }; bytes = j.bytes }) after
+      → Gives (told_as reading_of (read_into f e v n lent))
+      (record { report = record { start = f; end = e; outcome = j.outcome; noise = n }; bytes = j.bytes }) after
   placed f e n (refused o) lent j after g = record { result = rw g.result; lent = g.lent }
   placed f e n (done op b p) lent j after g = by_test (leb (length p) (length lent)) g
     where

@@ -1,4 +1,5 @@
-// The reports of a stream, by two states: outside a message and inside one, that hand the rest of the input to each other.
+// The reports of a stream, by two states, a form that was asked for: outside a message and inside one, that hand the rest of the input to
+// each other.
 ghost use Rattle.std.specs.Prelude.{◌≡◌, ◌++◌, ◌+◌, ◌^◌, ◌<◌, ◌≤◌, length, drop};
 ghost use Rattle.streams.specs.code.Scan.{outside, scan};
 ghost use Rattle.messages.specs.Judge.{judge};

@@ -72,7 +72,8 @@ pub(crate) fn no_message(length: usize) -> Report
     }
 }
 
-// The walk: start, end, outcome and noise of the first message that starts at `place` or later; 1 where there is none.
+// The walk: start, end, outcome and noise of the first message that starts at `place` or later; 1 where there is none. By way of
+// `walk_with_bytes` it was measured slower: docs/DECISIONS.md, 'Two walks beside each other'.
 pub fn walk(s: &[u8], place: usize) -> Report
     ensures { result ≡ walked s.now place }
 {

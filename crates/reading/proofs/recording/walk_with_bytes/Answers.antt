@@ -12,8 +12,9 @@ returns-then-s-start c =
 
 pub reading_of-requires : goal.reading_of-requires
 reading_of-requires c =
-    let left = c.if-s-start.false in
-    end_fits c.args.s.now c.args.place _ c.find_start_from-start.ensures left (omega (arith, c.well_formed)) _ (ap (λ (h : Heard). h.span) c.judge_from.ensures)
+    let a = c.args in
+    let span = ap (λ (h : Heard). h.span) c.judge_from.ensures in
+    end_fits a.s.now a.place _ c.find_start_from-start.ensures c.if-s-start.false (omega (arith, c.well_formed)) _ span
 
 pub returns : goal.returns
 returns c =

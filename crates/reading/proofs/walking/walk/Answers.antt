@@ -13,10 +13,13 @@ returns-then-s-start c =
 
 pub report_of-requires : goal.report_of-requires
 report_of-requires c =
-    end_fits c.args.s.now c.args.place _ c.find_start_from-start.ensures c.if-s-start.false (omega (arith, c.well_formed)) _ (ap (λ (h : Heard). h.span) c.judge_from.ensures)
+    let a = c.args in
+    let span = ap (λ (h : Heard). h.span) c.judge_from.ensures in
+    end_fits a.s.now a.place _ c.find_start_from-start.ensures c.if-s-start.false (omega (arith, c.well_formed)) _ span
 
 pub returns : goal.returns
 returns c =
     let a = c.args in
-    let there = found_there a.s.now a.place _ c.find_start_from-start.ensures c.if-s-start.false (told_heard c.judge_from.result) c.judge_from.ensures in
+    let e = c.find_start_from-start.ensures in
+    let there = found_there a.s.now a.place _ e c.if-s-start.false (told_heard c.judge_from.result) c.judge_from.ensures in
     c.report_of.ensures ∙ ap (λ (r : Reading). r.report) there
