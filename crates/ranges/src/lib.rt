@@ -95,13 +95,15 @@ pub fn first_out(table: &[[u8; 4]], bytes: &[u8]) -> Option<Found>
 pub fn test(count: usize, table: Option<&[[u8; 4]]>, bytes: &[u8]) -> Result<(), Refusal>
     ensures { told_test result ≡ tested (counted_rows count (lent_table table.entry) bytes.now) }
 {
+    // The search is begun before the count is told, so that it stays a loop, apart from a pass over the same bytes before it.
+    let out = match table {
+        Some(rows) => first_out(rows, bytes),
+        None => None,
+    };
     if bytes.len() != count {
         return Err(Refusal::WrongLength);
     }
-    let Some(rows) = table else {
-        return Ok(());
-    };
-    match first_out(rows, bytes) {
+    match out {
         Some(found) => Err(Refusal::OutOfRange(found)),
         None => Ok(()),
     }
