@@ -27,7 +27,7 @@ pub const ROOM: usize = MasterParameters::LENGTH;
 
 // A reader's record. Inside a message: its bytes behind F0H so far, real time dropped, as many as there is room for, their count, its
 // start, and the real time in it so far. After a dump's report, until the next call that is done: its packed bytes, and their count. Else
-// zeros. The bytes taken so far; whether the end was declared.
+// zeros. The bytes taken so far; whether the end was declared. The struct of the C interface: so flags, and a count beside the bytes.
 #[repr(C)]
 #[derive(Clone, Copy)]
 pub struct Cable {
@@ -41,7 +41,8 @@ pub struct Cable {
 }
 
 // What a call tells: how many bytes it took, whether a message ended with it, and that message's report with the bytes that come with
-// its answer. Where none ended, all zero; with 1 the bytes taken so far as start and end, with 21 no more than that number.
+// its answer. Where none ended, all zero; with 1 the bytes taken so far as start and end, with 21 no more than that number. The struct of the
+// C interface: so a flag beside the report.
 #[repr(C)]
 #[derive(Clone, Copy)]
 pub struct Fed {
@@ -57,7 +58,7 @@ pub struct Step {
     pub fed: Fed,
 }
 
-// How many packed bytes come with what a message comes to.
+// How many packed bytes come with what a message comes to. No method: neither `Result` nor what is in it is of this crate.
 fn size_told(judged: Result<Accepted, Refusal>) -> usize
     ensures { result ≡ size_told (told_judged judged).outcome }
 {

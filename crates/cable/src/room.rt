@@ -32,7 +32,7 @@ fn put_quiet(bytes: &[u8], out: &mut [u8]) -> usize
 }
 
 // More bytes behind the first ones of a room, real time dropped, as many as fit; and how many stand there then. The callers have counted
-// the real time.
+// the real time. The count goes beside the room: a struct of both was measured slower (DECISIONS, 'The record by value').
 pub(crate) fn append(room: &mut [u8], count: usize, more: &[u8], noise: usize) -> usize
     requires { noise ≡ real_time_in more.now }
     ensures { Kept (take count room.old ++ without_real_time more.now) room.old room.new result }

@@ -105,6 +105,7 @@ impl Remote {
     }
 }
 
+// The same three as `Remote` has: a trait would carry the rows and what is stored as ghost members, longer than the bodies.
 impl Matrix {
     // The three bytes of its bus as they are stored: refused with 8, then with 11, the lowest of their places and the value that it would
     // store, then with 12 and its bus. Every bus has the same ranges.

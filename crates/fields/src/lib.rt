@@ -51,7 +51,8 @@ pub struct BytePlace(pub u8);
 #[derive(Clone, Copy, Debug, PartialEq, Eq)]
 pub struct Parameter(pub u8);
 
-// The row of a place; past the table its numbers are 0.
+// The row of a place; past the table its numbers are 0. Beside `ranges::row_of`: a place is a byte here and a row a struct, as 01 has them,
+// and `ranges` tests by any table of four numbers.
 fn row_of(place: BytePlace) -> Field
     ensures { result ≡ row_at place.0 }
 {
@@ -61,7 +62,7 @@ fn row_of(place: BytePlace) -> Field
         .unwrap_or(Field(0, 0, 0, 0))
 }
 
-// The least value of a place, as a byte; 0 past the table.
+// The least value of a place, as a byte; 0 past the table. These lookups are functions, as 01 has `place_of` and `parameter_of`.
 pub fn least_of(place: BytePlace) -> u8
     ensures { result ≡ least_at place.0 }
 {

@@ -1,7 +1,8 @@
 // The listing of document 01: a row for each byte of a patch. Each of its numbers is typed here and nowhere else in code.
 use crate::{Field, PLACES};
 
-// Stands where a place has no parameter, the name and the buses, and where a number is no parameter's.
+// Stands where a place has no parameter, the name and the buses, and where a number is no parameter's. A byte and no `Option`: so the rows of
+// the definition have it.
 pub(crate) const NONE: u8 = 255;
 
 // The last code of 000's Table 3, Portamento Time.

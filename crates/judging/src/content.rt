@@ -40,7 +40,7 @@ fn place_of(body: &[u8], i: usize) -> usize
     at
 }
 
-// Where its last byte stands, found from the end. The caller below has seen that there is one.
+// Where its last byte stands, found from the end, by its place. The caller below has seen that there is one.
 fn last_place(body: &[u8]) -> usize
     requires { 0 < length (without_real_time body.now) }
     ensures { LastAt body.now result }

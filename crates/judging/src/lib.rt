@@ -37,7 +37,7 @@ pub struct Heard {
     pub judged: Result<Accepted, Refusal>,
 }
 
-// The outcome of what a message comes to: accepted, its detail is the opcode.
+// The outcome of what a message comes to: accepted, its detail is the opcode. No `From`: neither `Result` nor `Outcome` is of this crate.
 pub fn outcome_of(judged: Result<Accepted, Refusal>) -> Outcome
     ensures { result ≡ (told_judged judged).outcome }
 {
@@ -117,7 +117,7 @@ fn judge_span(span: Span, rest: &[u8]) -> Result<Accepted, Refusal>
     }
 }
 
-// The same with its packed bytes.
+// The same with its packed bytes. Judging by way of this costs the reports stack and time (DECISIONS, 'A record is judged, then packed').
 fn record_span(span: Span, rest: &[u8], buffer: &mut [u8]) -> Result<Accepted, Refusal>
     requires { span ≡ span_of rest.now }
     ensures { Gives (recorded_as (verdict_from rest.now) buffer.old) (told_judged result) buffer.new }

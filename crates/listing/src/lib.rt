@@ -27,7 +27,7 @@ pub enum Left {
     Nothing,
 }
 
-// How long the piece at the room's start is, and what is left behind it.
+// How long the piece at the room's start is, and what is left behind it. A length and no slice: the contract tells the whole room.
 #[derive(Clone, Copy)]
 pub struct Piece {
     pub len: usize,

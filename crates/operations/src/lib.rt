@@ -38,7 +38,7 @@ pub const LAST_UNIT: u8 = 5;
 
 pub const ANY_UNIT: u8 = 0x7F;
 
-// The types of a request: the message's own bytes, read in one place alone.
+// The types of a request: the message's own bytes, read in one place alone. An enum and its `TryFrom` would say the same four numbers again.
 const EVERYTHING: u8 = 0;
 
 const ONE_PATCH: u8 = 1;

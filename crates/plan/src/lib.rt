@@ -47,14 +47,15 @@ pub enum Wrong {
     Outside,
 }
 
-// What stands in a room: up to `out` what goes to the standard output, from there to `end` what goes to the standard error.
+// What stands in a room: up to `out` what goes to the standard output, from there to `end` what goes to the standard error. Places and no
+// slices: the contract tells the whole room, which the program writes from.
 #[derive(Clone, Copy)]
 pub struct Written {
     pub out: usize,
     pub end: usize,
 }
 
-// An accepted patch dump, numbered or for the edit buffer.
+// An accepted patch dump, numbered or for the edit buffer: by its outcome, as the definition has it.
 fn is_patch_dump(outcome: Outcome) -> bool
     ensures { result ≡ is_patch_dump outcome }
 {
@@ -176,7 +177,7 @@ fn put_change(text: &mut Text, a: &[u8; PATCH], b: &[u8; PATCH], part: Part)
     }
 }
 
-// A line for each edit.
+// A line for each edit. The patches go by themselves: the definitions take them so, and a struct of both would be taken apart in each call.
 fn put_changes(text: &mut Text, a: &[u8; PATCH], b: &[u8; PATCH])
     ensures { Gains (change_lines a.now b.now) text.old text.new }
 {
@@ -196,7 +197,8 @@ fn put_list(text: &mut Text, a: &[u8; PATCH], b: &[u8; PATCH])
     }
 }
 
-// The list that turns a into b, as lines or as bytes, or that their names differ; answers where the standard output's part ends.
+// The list that turns a into b, as lines or as bytes, or that their names differ; answers where the standard output's part ends. `lines` is
+// the flag of the definition.
 fn put_proposal(text: &mut Text, lines: bool, a: &[u8; PATCH], b: &[u8; PATCH]) -> usize
     ensures { PutsBoth (proposing lines a.now b.now) text.old text.new result }
 {

@@ -17,7 +17,7 @@ use frames::{END, START};
 use messages::kinds::{BusEdit, DEVICE, MAKER, PATCH, RemoteEdit};
 use parts::{Differing, Part};
 
-// How long the list is.
+// How long the list is. The patches go by themselves: the definitions take them so, and a struct of both would be taken apart in each call.
 fn list_size(a: &[u8; PATCH], b: &[u8; PATCH]) -> usize
     ensures { result ≡ length (list_bytes (plan a.now b.now)) }
 {
@@ -28,7 +28,7 @@ fn list_size(a: &[u8; PATCH], b: &[u8; PATCH]) -> usize
     size
 }
 
-// The message of an edit at the start of an output.
+// The message of an edit at the start of an output. The writers would test the edit again (DECISIONS, 'The planner stores its bytes itself').
 fn put_message(opcode: u8, operands: &[u8], out: &mut [u8])
     requires { length operands.now + 5 ≤ length out.old }
     ensures { out.new ≡ at_start (message_of opcode operands.now) out.old }

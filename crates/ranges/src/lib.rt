@@ -6,7 +6,7 @@ ghost use Rattle.answers.specs.Effect.{tested};
 ghost use Rattle.answers.specs.Refusals.{told_test};
 ghost use Rattle.ranges.specs.Values.{value_of, value_by};
 ghost use Rattle.ranges.specs.Ranges.{least_in, greatest_in, between, in_row, value_in, out_from, counted_rows};
-ghost use Rattle.ranges.specs.code.Found.{found_in, lent_table};
+ghost use Rattle.ranges.specs.code.Found.{found_in, table_in};
 ghost use Rattle.ranges.specs.code.Passes.{all_in};
 
 use answers::{Found, Refusal};
@@ -90,15 +90,15 @@ pub fn first_out(table: &[[u8; 4]], bytes: &[u8]) -> Option<Found>
     None
 }
 
-// The test of so many bytes by the table of their ranges, where they have one: 7 for another count of them, then 11 with the lowest place out
-// of range and the value found there.
+// The test of so many bytes by the table of their ranges, where they have one with rows: 7 for another count of them, then 11 with the lowest
+// place out of range and the value found there.
 pub fn test(count: usize, table: Option<&[[u8; 4]]>, bytes: &[u8]) -> Result<(), Refusal>
-    ensures { told_test result ≡ tested (counted_rows count (lent_table table.entry) bytes.now) }
+    ensures { told_test result ≡ tested (counted_rows count (table_in table.entry) bytes.now) }
 {
     // The search is begun before the count is told, so that it stays a loop, apart from a pass over the same bytes before it.
     let out = match table {
-        Some(rows) => first_out(rows, bytes),
-        None => None,
+        Some(rows) if !rows.is_empty() => first_out(rows, bytes),
+        _ => None,
     };
     if bytes.len() != count {
         return Err(Refusal::WrongLength);

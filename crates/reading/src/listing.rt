@@ -16,7 +16,7 @@ pub struct Listed {
     pub next: usize,
 }
 
-// How many numbers a report has.
+// How many numbers a report has. C lends a room of numbers, so reports lie flat in it.
 pub const WIDTH: usize = 6;
 
 // One call makes at most so many reports, which bounds how many calls of the two states are under way.

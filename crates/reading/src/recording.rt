@@ -1,7 +1,6 @@
 // The walk with the bytes that come with an answer, and reading a record into a lent buffer.
-ghost use Rattle.std.specs.Prelude.{◌≡◌};
+ghost use Rattle.std.specs.Prelude.{◌≡◌, ◌^◌, ◌<◌};
 ghost use Rattle.answers.specs.Effect.{Gives};
-ghost use Rattle.std.specs.Prelude.{◌^◌, ◌<◌};
 ghost use Rattle.judging.specs.code.Heard.{told_heard};
 ghost use Rattle.reading.specs.code.Told.{end_from, reading_from, none_read, walked_with, reads};
 

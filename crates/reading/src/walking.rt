@@ -20,7 +20,7 @@ pub struct Report {
 }
 
 impl Report {
-    // Whether it is of a message, and does not tell that there is none.
+    // Whether it is of a message, and does not tell that there is none: by its number, since this is the struct of the C interface.
     pub fn is_found(self) -> bool
         ensures { result ≡ not (eqb self.outcome.answer 1) }
     {

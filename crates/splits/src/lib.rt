@@ -12,7 +12,7 @@ use answers::Refusal;
 // How many bytes a split has.
 pub const SIZE: usize = 18;
 
-// Stands where a place has no parameter.
+// Stands where a place has no parameter. A byte and no `Option`: so the rows of the definition have it.
 const NONE: u8 = 255;
 
 // A row for each byte: its place, its parameter number, its least and its greatest value. Values are bytes as stored: a least value above

@@ -177,7 +177,7 @@ impl Unit {
     {
         let reading = walk_with_bytes(s, place);
         let report = reading.report;
-        // The detail of an accepted message is its opcode.
+        // The detail of an accepted message is its opcode, read back: the step is defined by the walk's report, which is what C is told.
         let act = if report.outcome.is_done() {
             self.takes(kind_of((report.outcome.detail % 256) as u8), reading.bytes)
         } else {

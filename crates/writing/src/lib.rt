@@ -28,7 +28,7 @@ use messages::kinds::{
 // A bank has at most 100 patches.
 const BANK: usize = 100 * PATCH;
 
-// Why a bank is refused, and as place the number of the patch that is refused, 0 with other refusals.
+// Why a bank is refused, and as place the number of the patch that is refused, 0 with other refusals: no `Option`, since C is told it so.
 #[derive(Clone, Copy, Debug, PartialEq, Eq)]
 pub struct BankRefusal {
     pub refusal: Refusal,

@@ -1,5 +1,5 @@
 -- What a search over bytes finds, as the code answers it; and a table as it is lent.
-use Rattle.std.specs.Prelude.{ℕ, Option as Maybe, Some, None}
+use Rattle.std.specs.Prelude.{[], ◌∷◌, ℕ, Option as Maybe, Some, None}
 use Rattle.std.proofs.Math.Option.{Option, none, some}
 use denote.Ref.{Bor}
 use Rattle.answers.specs.Table.{Found, found}
@@ -14,7 +14,12 @@ abbrev pub found_in : Option Found → Maybe FoundThere
 found_in (some (found k v)) = Some (record { place = k; value = v })
 found_in none = None
 
+-- A lent table; one without rows is none.
+abbrev pub lent_table : Table → Option Table
+lent_table [] = none
+lent_table (r ∷ t) = some (r ∷ t)
+
 -- A table that may be lent.
-abbrev pub lent_table : Maybe (Bor Table) → Option Table
-lent_table (Some t) = some t.now
-lent_table None = none
+abbrev pub table_in : Maybe (Bor Table) → Option Table
+table_in (Some t) = lent_table t.now
+table_in None = none
