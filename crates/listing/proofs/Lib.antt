@@ -1,4 +1,5 @@
+pub mod Example
+pub mod Flat
+pub mod Joined
 pub mod Lines
 pub mod Steps
-pub mod Joined
-pub mod Example
