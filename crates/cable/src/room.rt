@@ -14,7 +14,7 @@ fn put_all(bytes: &[u8], out: &mut [u8]) -> usize
     n
 }
 
-// The same of those that are not real time.
+// The same of those that are not real time. What is kept is counted, and not the turns.
 fn put_quiet(bytes: &[u8], out: &mut [u8]) -> usize
     ensures { Kept (without_real_time bytes.now) out.old out.new result }
 {

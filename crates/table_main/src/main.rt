@@ -24,7 +24,7 @@ fn put_parameter(text: &mut Text, place: u8)
     }
 }
 
-// The value of a byte at a place, with its sign, and the byte behind it.
+// The value of a byte at a place, with its sign, and the byte behind it: one line, as in `plan`, since `text` knows no fields.
 fn put_value(text: &mut Text, place: u8, b: u8, behind: u8)
     ensures { Gains (signed (value_at place b) behind) text.old text.new }
 {

@@ -214,7 +214,8 @@ pub fn write_store_edit_buffer(
     write_short(STORE_EDIT_BUFFER, &[number, bank, id], out)
 }
 
-// The patches of a bank in their order: the lowest bad one's own 11 or 12, with its number as place.
+// The patches of a bank in their order: the lowest bad one's own 11 or 12, with its number as place. Under `map_err` a closure would take the
+// place in, and the proof does not reach what it returns.
 fn test_bank(ps: &[u8]) -> Result<(), BankRefusal>
     ensures { told_patches result ≡ found_or (first_bad (length ps.now / size) 0 ps.now) }
 {
