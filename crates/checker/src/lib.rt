@@ -57,6 +57,7 @@ fn turn(p: &mut [u8], list: &[u8]) -> bool
     ensures { Turns (last_patch list.now p.old) result p.new }
 {
     let mut rest = list;
+    // Nothing is counted: it goes on with what is left.
     while !rest.is_empty() {
         let Some(behind) = follow(p, rest) else {
             return false;

@@ -35,7 +35,7 @@ use reading::recording::Reading;
 use reading::walking::Report;
 use units::{Step, Unit};
 
-// A byte that no place and no parameter is.
+// What C is told where there is none: a byte that no place and no parameter is.
 const NONE: u8 = 255;
 
 // A remote edit, whose two bytes C hands over by themselves.

@@ -78,7 +78,7 @@ pub fn put_report(text: &mut Text, r: Report)
     put_line(text, numbers, isize::from(r.outcome.value), r.noise);
 }
 
-// The line of the next message, or the last line where there is none.
+// The line of the next message, or the last line where there is none: by its place, since the clause goes by what is left of the input.
 fn put_next(s: &[u8], place: usize, messages: usize, text: &mut Text) -> Left
     requires { Within s.now place messages }
     ensures { Adds s.now (Left.From place messages) text.old text.new result }
@@ -113,6 +113,7 @@ pub fn next_piece(s: &[u8], left: Left, room: &mut [u8]) -> Piece
 {
     let mut text = Text::new(room, 0);
     let mut rest = left;
+    // Nothing is counted: it goes on with what is left.
     while rest != Left::Nothing && LEAST_ROOM <= text.space() {
         rest = put_some(s, rest, &mut text);
     }

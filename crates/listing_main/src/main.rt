@@ -18,6 +18,7 @@ fn print<W: Write>(s: &[u8], room: &mut [u8], out: &mut W) -> io::Result<()>
     ensures { OnOk result (Appends (W.contents out.old) (W.contents out.new) (listing_of s.now)) }
 {
     let mut left = Left::Whole;
+    // Nothing is counted: it goes on with what is left.
     while left != Left::Nothing {
         let piece = listing::next_piece(s, left, room);
         out.write_all(&room[..piece.len])?;

@@ -119,7 +119,7 @@ fn put_wrong(text: &mut Text, wrong: Wrong)
     }
 }
 
-// The value of a byte at a place, with its sign, and the byte behind it.
+// The value of a byte at a place, with its sign, and the byte behind it: one line, as in `table_main`.
 fn put_value(text: &mut Text, place: BytePlace, b: u8, behind: u8)
     ensures { Gains (signed (value_at place.0 b) behind) text.old text.new }
 {
