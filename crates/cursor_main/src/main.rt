@@ -3,7 +3,8 @@
 #![tactic(auto)]
 
 ghost use Rattle.answers.specs.Table.{four};
-ghost use Rattle.text.specs.Text.{Gains};
+ghost use Rattle.text.specs.Text.{Holds};
+ghost use Rattle.listing.specs.Listing.{line};
 ghost use Rattle.cursor_main.specs.Records.{record_line};
 
 use cursor::Cursor;
@@ -14,10 +15,19 @@ use std::io;
 use std::io::Write;
 use text::{Text, input};
 
-// The line of the bytes that come with a record.
-fn put_record(text: &mut Text, r: Reading)
-    ensures { Gains (record_line (four r.bytes)) text.old text.new }
+// A report's line, alone.
+fn put_report(text: &mut Text, r: Report)
+    ensures { Holds (line r.start r.end r.outcome r.noise) text.old text.new }
 {
+    text.clear();
+    listing::put_report(text, r);
+}
+
+// The line of the bytes that come with a record, alone.
+fn put_record(text: &mut Text, r: Reading)
+    ensures { Holds (record_line (four r.bytes)) text.old text.new }
+{
+    text.clear();
     let [first, second, third, last] = r.bytes;
     text.put(b"record ");
     text.put_spaced(&[first as usize, second as usize, third as usize]);
@@ -27,8 +37,10 @@ fn put_record(text: &mut Text, r: Reading)
 // The record of the message at a cursor.
 fn print_record(cursor: Cursor, text: &mut Text, out: &mut impl Write) -> io::Result<()> {
     let mut buffer = [0u8; MASTER];
-    text.clear();
-    put_record(text, cursor.read_record(&mut buffer));
+    put_record(
+        text,
+        cursor::read_from(cursor.input, cursor.place(), &mut buffer),
+    );
     out.write_all(text.as_bytes())
 }
 
@@ -39,8 +51,7 @@ fn print_report(
     text: &mut Text,
     out: &mut impl Write,
 ) -> io::Result<()> {
-    text.clear();
-    listing::put_report(text, r);
+    put_report(text, r);
     out.write_all(text.as_bytes())?;
     if r.outcome.is_done() {
         print_record(cursor, text, out)?;
@@ -52,7 +63,7 @@ fn print_report(
 fn print_reports(s: &[u8], text: &mut Text, out: &mut impl Write) -> io::Result<()> {
     let mut cursor = Cursor::over(s);
     for _ in 0..s.len() {
-        let r = cursor.next();
+        let r = cursor::report_from(cursor.input, cursor.place());
         if !r.is_found() {
             return Ok(());
         }

@@ -99,7 +99,7 @@ impl Remote {
         ensures { Stored (storing self.parameter.0 self.value p.old) result p.new }
     {
         match self.change() {
-            Ok(change) => change.store(p),
+            Ok(byte) => byte.store(p),
             Err(_) => false,
         }
     }

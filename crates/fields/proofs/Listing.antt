@@ -24,18 +24,22 @@ leasts = map (λ r. get_or r 2 0) fields
 pub least_read : (k : ℕ) → get_or leasts k 0 ≡ least_at k
 least_read k = get_or-map (λ r. get_or r 2 0) fields k []
 
-abbrev pub greatests : List ℕ
-greatests = map (λ r. get_or r 3 0) fields
+-- How far the greatest value is above the least.
+abbrev pub width_of : List ℕ → ℕ
+width_of r = (get_or r 3 0 + (256 - get_or r 2 0)) % 256
 
-pub greatest_read : (k : ℕ) → get_or greatests k 0 ≡ greatest_at k
-greatest_read k = get_or-map (λ r. get_or r 3 0) fields k []
+abbrev pub widths : List ℕ
+widths = map width_of fields
 
--- A byte lies in its range exactly when it is no further above the least value than the greatest is, both of the columns.
-pub in_columns : (k b : ℕ) → b < 256 → leb ((b + (256 - get_or leasts k 0)) % 256) ((get_or greatests k 0 + (256 - get_or leasts k 0)) % 256) ≡ in_range k b
+pub width_read : (k : ℕ) → get_or widths k 0 ≡ (greatest_at k + (256 - least_at k)) % 256
+width_read k = get_or-map width_of fields k []
+
+-- A byte lies in its range exactly when it is no further above the least value than the greatest is, by the columns.
+pub in_columns : (k b : ℕ) → b < 256 → leb ((b + (256 - get_or leasts k 0)) % 256) (get_or widths k 0) ≡ in_range k b
 unfolding in_row
 in_columns k b h =
     let bytes = fields_rule.bytes k in
-    rw (least_read k, greatest_read k) (sym (between_width (least_at k) (greatest_at k) b _ _ bytes.0 bytes.1 h (omega arith) (omega arith) refl))
+    rw (least_read k, width_read k) (sym (between_width (least_at k) (greatest_at k) b _ _ bytes.0 bytes.1 h (omega arith) (omega arith) refl))
 
 only_zero : (b : ℕ) → eqb b 0 ≡ leb b 0
 only_zero b = grind (arith, nat_tests)

@@ -1,6 +1,7 @@
 // The 134 bytes of a patch as document 01 lists them: byte place, parameter number, least and greatest value, and the lookups over them.
 #![tactic(auto)]
 
+pub mod columns;
 mod rows;
 
 ghost use Rattle.std.specs.Prelude.{◌≡◌};
@@ -8,8 +9,9 @@ ghost use Rattle.fields.specs.Fields.{least_at, greatest_at, in_range, value_at,
 ghost use Rattle.fields.specs.Parameters.{ranging};
 ghost use Rattle.fields.specs.code.Lookups.{row_at, found_place, found_parameter, told_range};
 
+use crate::columns::{LEAST, WIDTH};
 pub use crate::rows::FIELDS;
-use crate::rows::{GREATEST, LEAST, NONE, PLACE_OF, R26, R104, R105, R106};
+use crate::rows::{NONE, PLACE_OF, R0, R26, R104, R105, R106};
 use answers::{Outcome, Refusal};
 
 // A row: a byte place, its parameter number, its least and its greatest value. Values are bytes as stored: a least value above the
@@ -22,6 +24,9 @@ pub const PLACES: usize = 134;
 
 // The name's bytes come first.
 pub const NAME_SIZE: usize = 8;
+
+// The row of its first byte: all eight have the same range.
+pub const NAME: Field = R0;
 
 // The buses come last, three bytes each.
 pub const BUSES: usize = 10;
@@ -106,7 +111,7 @@ pub fn in_range(place: BytePlace, b: u8) -> bool
     if PLACES <= k {
         return b == 0;
     }
-    b.wrapping_sub(LEAST[k]) <= GREATEST[k].wrapping_sub(LEAST[k])
+    b.wrapping_sub(LEAST[k]) <= WIDTH[k]
 }
 
 // The value of a byte at a place. A field is signed where its least value is above its greatest.

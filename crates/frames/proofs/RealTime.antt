@@ -10,6 +10,14 @@ use Rattle.streams.proofs.Bytes.{kind_is, stays}
 use Rattle.frames.proofs.Extent.{split}
 
 module _ (s : List ℕ) (i : ℕ) (h : i < length s) where
+  pub past_more : 0xF7 < get_or s i 0 → real_time_ahead (drop i s) ≡ suc (real_time_ahead (drop (i + 1) s))
+  unfolding real_time_ahead
+  past_more k = rw (split s i h) (simp (kind_is realTime _ k))
+
+  pub past_found : get_or s i 0 ≤ 0xF7 → real_time_ahead (drop i s) ≡ 0
+  unfolding real_time_ahead
+  past_found k = rw (split s i h) (simp (stays _ k))
+
   -- Without real time the bytes from the index on begin behind it, or with the byte there.
   pub without_passed : 0xF7 < get_or s i 0 → without_real_time (drop i s) ≡ without_real_time (drop (i + 1) s)
   unfolding without_real_time

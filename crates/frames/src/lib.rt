@@ -170,20 +170,18 @@ pub fn find_end(rest: &[u8]) -> Span
     }
 }
 
-// How many bytes stand before the first that is not real time. One function for both counts, over a test, could say no more than what its
-// calls returned.
-fn count_real_time(rest: &[u8]) -> usize
-    ensures { result ≡ prefix_len (λ b. nat_lt 0xF7 b) rest.now }
-{
-    rest.iter().take_while(|b| END < **b).count()
-}
-
-// Where the first byte at a place or later stands that is not real time; no place of the bytes where there is none.
+// Where the first byte at a place or later stands that is not real time; no place of the bytes where there is none. By their places: by `iter`
+// over what is left of them, dumps with Active Sensing took up to half as long again.
 pub fn past_real_time(bytes: &[u8], place: usize) -> usize
     ensures { result ≡ past_real_time bytes.now place }
 {
     if bytes.len() <= place {
         return place;
     }
-    place + count_real_time(&bytes[place..])
+    for i in place..bytes.len() {
+        if bytes[i] <= END {
+            return i;
+        }
+    }
+    bytes.len()
 }

@@ -222,18 +222,21 @@ fn answer_files(text: &mut Text, lines: bool, returned: &[u8], lent: &[u8]) -> u
     ensures { PutsBoth (by_files lines returned.now lent.now) text.old text.new result }
 {
     let start = text.end();
-    match (find_patch(returned), find_patch(lent)) {
-        (Err(wrong), _) => {
+    // The lent patch's file is not looked at where the returned one is wrong.
+    match find_patch(returned) {
+        Err(wrong) => {
             text.put(b"returned: ");
             put_wrong(text, wrong);
             start
         }
-        (Ok(_), Err(wrong)) => {
-            text.put(b"lent: ");
-            put_wrong(text, wrong);
-            start
-        }
-        (Ok(a), Ok(b)) => put_proposal(text, lines, &a, &b),
+        Ok(a) => match find_patch(lent) {
+            Err(wrong) => {
+                text.put(b"lent: ");
+                put_wrong(text, wrong);
+                start
+            }
+            Ok(b) => put_proposal(text, lines, &a, &b),
+        },
     }
 }
 

@@ -11,6 +11,7 @@ ghost use Rattle.edit_lists.specs.Lists.{message_for, list_bytes};
 ghost use Rattle.edit_lists.specs.Plan.{reaching, plan, planning};
 ghost use Rattle.edit_lists.specs.code.Left.{length_at};
 
+pub use crate::parts::width_of;
 use answers::Refusal;
 use fields::{BytePlace, SOURCE_AT};
 use frames::{END, START};

@@ -14,12 +14,19 @@ pub struct Part {
     ghost begins: { IsPart place },
 }
 
+// How many bytes the edit at a place changes: a parameter's one, or the three of a bus.
+pub fn width_of(k: usize) -> usize
+    ensures { result ≡ width_of k }
+{
+    if k < SOURCE_AT { 1 } else { 3 }
+}
+
 impl Part {
     // How many bytes it has.
     fn width(self) -> usize
         ensures { result ≡ width_of self.place }
     {
-        if self.place < SOURCE_AT { 1 } else { 3 }
+        width_of(self.place)
     }
 
     // How long the message of its edit is.
@@ -33,7 +40,7 @@ impl Part {
         }
     }
 
-    // Two patches have the same bytes there.
+    // Two patches have the same bytes there. Each by itself: as slices the three bytes of a bus are compared by a loop.
     fn is_same(self, a: &[u8; PATCH], b: &[u8; PATCH]) -> bool
         ensures { result ≡ same_at self.place a.now b.now }
     {
@@ -41,7 +48,7 @@ impl Part {
         if k < SOURCE_AT {
             a[k] == b[k]
         } else {
-            a[k..k + 3] == b[k..k + 3]
+            a[k] == b[k] && a[k + 1] == b[k + 1] && a[k + 2] == b[k + 2]
         }
     }
 }

@@ -19,18 +19,29 @@ pub struct Listed {
 // How many numbers a report has. C lends a room of numbers, so reports lie flat in it.
 pub const WIDTH: usize = 6;
 
+// Where the value stands among them, and the noise behind it.
+pub const VALUE: usize = 4;
+
+pub const NOISE: usize = 5;
+
 // One call makes at most so many reports, which bounds how many calls of the two states are under way.
 pub const MOST: usize = 8;
 
 // The room for them.
 const ROOM: usize = MOST * WIDTH;
 
-// A report's numbers at the start of the room. Its caller has seen that they fit.
+// A report's numbers at the start of the room. Its caller has seen that they fit. Each by itself: copied as an array they go to the stack first.
 fn put_report(r: Report, room: &mut [usize])
     requires { width ≤ length room.old }
     ensures { room.new ≡ numbers_told r ++ drop width room.old }
 {
-    room[..WIDTH].copy_from_slice(&r.numbers());
+    let [start, end, answer, detail, value, noise] = r.numbers();
+    room[0] = start;
+    room[1] = end;
+    room[2] = answer;
+    room[3] = detail;
+    room[VALUE] = value;
+    room[NOISE] = noise;
 }
 
 // Outside a message: on to the next F0H, if there is room for one more report.

@@ -2,7 +2,7 @@
 // Every number is asked of the fields crate's lookups.
 #![tactic(auto)]
 
-ghost use Rattle.text.specs.Text.{signed, Gains};
+ghost use Rattle.text.specs.Text.{signed, Gains, Holds};
 ghost use Rattle.fields.specs.Fields.{value_at, parameter_of};
 ghost use Rattle.table_main.specs.Table.{parameter_text, table_row, table_text};
 
@@ -41,10 +41,11 @@ fn put_field(text: &mut Text, place: u8)
     put_value(text, place, fields::greatest_of(BytePlace(place)), b'\n');
 }
 
-// The lines of all places.
+// The lines of all places, alone.
 fn put_table(text: &mut Text)
-    ensures { Gains table_text text.old text.new }
+    ensures { Holds table_text text.old text.new }
 {
+    text.clear();
     for place in 0..PLACES {
         put_field(text, place);
     }

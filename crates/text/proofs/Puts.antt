@@ -9,7 +9,7 @@ use native.Mathlib.Numerals.{unary_clauses}
 use native.Mathlib.Omega.{arith}
 use lib.ListN.{length, take, drop, length-append, length-drop, length-take, take-append-drop}
 use lib.Seq.{length-take-le, take_all, take-nil, take_at, drop_at, drop-drop}
-use Rattle.text.specs.Text.{fitting, IsPrefixLen, Puts, Gains}
+use Rattle.text.specs.Text.{fitting, IsPrefixLen, Puts, Gains, Holds}
 use Rattle.text.specs.declared.Text.{Text}
 
 -- The first n of two lists joined: the first of w, and of v as many as are left.
@@ -86,6 +86,10 @@ gains_none a = record { same_room = refl; puts = puts_none a.room.now a.end }
 
 pub gains_then : {w v : List ℕ} {a b c : Text} → Gains w a b → Gains v b c → Gains (w ++ v) a c
 gains_then g h = record { same_room = h.same_room ∙ g.same_room; puts = puts_then g.puts h.puts }
+
+-- Emptied first, a text is what it gains then.
+pub holds_emptied : {w : List ℕ} {a b c : Text} → (b.room ≡ a.room) × (b.end ≡ 0) → Gains w b c → Holds w a c
+holds_emptied e g = record { same_room = rw e.0 at g.same_room; puts = rw (e.0, e.1) at g.puts }
 
 -- Part of what a text is to gain is put: what puts the rest behind it has put the whole.
 abbrev pub Underway : List ℕ → List ℕ → Text → Text → Type 0

@@ -46,6 +46,11 @@ pub record Gains (w : List ℕ) (old new : Text) : Type 0 where
   pub same_room : new.room.ghost_name ≡ old.room.ghost_name
   pub puts : Puts w old.room.now old.end new.room.now new.end
 
+-- A text is the bytes w alone, whatever it was before: they stand at the start of the same room.
+pub record Holds (w : List ℕ) (old new : Text) : Type 0 where
+  pub same_room : new.room.ghost_name ≡ old.room.ghost_name
+  pub puts : Puts w old.room.now 0 new.room.now new.end
+
 -- What stands before place n of a room can be lent, and is n bytes. The second part follows from the first, and spares a caller's `&room[..n]` a
 -- proof file.
 abbrev pub IsPrefixLen : ℕ → List ℕ → Type 0

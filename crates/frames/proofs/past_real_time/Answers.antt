@@ -1,22 +1,24 @@
--- `past_real_time` counts from a place on; past the end there is nothing to count.
-use Rattle.std.proofs.Common.{◌≡◌, drop, sym, arith, length-drop}
-use Rattle.answers.proofs.Lists.{to_end}
-use Rattle.frames.specs.code.Extent.{real_time_ahead, past_real_time}
-use Rattle.frames.proofs.RealTime.{real_time_ahead_is, real_time_ahead_within, past_end}
-use Rattle.frames.proofs.past_real_time.Goals.{After-count_real_time}
+use Rattle.std.proofs.Common.{refl, sym, arith}
+use Rattle.frames.specs.code.Extent.{past_real_time}
+use Rattle.frames.proofs.RealTime.{past_more, past_found, past_end}
 use Rattle.frames.proofs.past_real_time.Goals as goal
 
 pub returns-then-bytes-place : goal.returns-then-bytes-place
 returns-then-bytes-place c = sym (past_end c.args.bytes.now c.args.place c.if-bytes-place.true)
 
-counted : (c : After-count_real_time) → c.count_real_time.result ≡ real_time_ahead (drop c.args.place c.args.bytes.now)
-counted c = rw (real_time_ahead_is (drop c.args.place c.args.bytes.now), ← to_end c.args.place c.args.bytes.now) c.count_real_time.ensures
+pub loop-i-init : goal.loop-i-init
+unfolding past_real_time
+loop-i-init c = refl
 
-pub overflow_add-result : goal.overflow_add-result
-overflow_add-result c =
-    let t = drop c.args.place c.args.bytes.now in
-    omega (arith, counted c, real_time_ahead_within t, length-drop c.args.place c.args.bytes.now, c.well_formed)
+pub returns-then-bytes-i-le-END : goal.returns-then-bytes-i-le-END
+returns-then-bytes-i-le-END c =
+    omega (arith, c.loop-i.invariant, past_found c.args.bytes.now c.loop-i.i c.loop-i-test.true c.if-bytes-i-le-END.true)
+
+pub loop-i-preserved : goal.loop-i-preserved
+loop-i-preserved c =
+    omega (arith, c.loop-i.invariant, past_more c.args.bytes.now c.loop-i.i c.loop-i-test.true (omega (arith, c.if-bytes-i-le-END.false)))
 
 pub returns : goal.returns
 unfolding past_real_time
-returns c = rw (counted c)
+returns c =
+    omega (arith, c.loop-i.invariant, c.loop-i.auto.i, past_end c.args.bytes.now c.loop-i.i c.loop-i-test.false)

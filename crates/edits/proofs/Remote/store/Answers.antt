@@ -13,7 +13,7 @@ unfolding storing
 returns-in-Ok c =
     let a = c.args in
     let refuses = edit_refusals a.self.parameter.0 a.self.value in
-    rw (judged_passed _ _ (length_row a.p.now ∷ []) a.p.now c.in-Ok.change refuses c.in-Ok.ensures) c.store.ensures
+    rw (judged_passed _ _ (length_row a.p.now ∷ []) a.p.now c.in-Ok.byte refuses c.in-Ok.ensures) c.store.ensures
 
 pub returns-in-Err : goal.returns-in-Err
 unfolding storing
