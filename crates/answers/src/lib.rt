@@ -125,8 +125,7 @@ impl Refusal {
     }
 }
 
-// A refusal as it is told, with its detail and value. The number is asked for apart, so that it is looked up in a table; by one `match` for all
-// three, a message of one byte took half as long again.
+// A refusal as it is told: its number, and of those that carry something the detail and value.
 impl From<Refusal> for Outcome {
     ghost from_gives = { λ r o. o ≡ outcome_by r };
 

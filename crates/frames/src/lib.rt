@@ -171,7 +171,7 @@ pub fn find_end(rest: &[u8]) -> Span
 }
 
 // Where the first byte at a place or later stands that is not real time; no place of the bytes where there is none. By their places: by `iter`
-// over what is left of them, dumps with Active Sensing took up to half as long again.
+// over what is left of them, dumps with Active Sensing took up to a fifth longer.
 pub fn past_real_time(bytes: &[u8], place: usize) -> usize
     ensures { result ≡ past_real_time bytes.now place }
 {
