@@ -3,6 +3,7 @@
 use mathlib.Core.Path.{◌≡◌, refl, ap, ◌∙◌}
 use mathlib.Core.List.{List, [], ◌∷◌, ◌++◌, append-nil}
 use mathlib.Core.Option.{some}
+use Rattle.std.specs.Prelude.{Some, None}
 use Prim.Native.Nat.{ℕ, ◌+◌, ◌*◌, ◌<◌, ◌≤◌}
 use native.Mathlib.Omega.{arith}
 use lib.Bits.{bit_or}
@@ -14,8 +15,7 @@ use Rattle.frames.specs.code.Extent.{past_real_time}
 use Rattle.nibbles.specs.Nibbles.{pack, wide_from, first_wide}
 use Rattle.nibbles.proofs.Laws.{length_pack, pack_take, wide_here}
 use Rattle.nibbles.proofs.Passing.{wide_passed, wide_end}
-use Rattle.answers.specs.Table.{outcome}
-use Rattle.judging.specs.code.Content.{StandsAt, sent_in, Gathers}
+use Rattle.judging.specs.code.Content.{StandsAt, sent_in, PacksTo}
 use Rattle.std.proofs.lemmas.Nat.{le_or_l, le_or_r}
 use Rattle.judging.proofs.Places.{stands_next, stands_byte, LeftAt, left_behind, left_more, left_passed, left_stands, sent_length, sent_byte}
 
@@ -31,10 +31,10 @@ pub both_narrow : (x y : ℕ) → bit_or x y < 16 → (x ≤ 15) × (y ≤ 15)
 both_narrow x y h = (omega (arith, le_or_l x y), omega (arith, le_or_r x y))
 
 -- A byte above 15 behind others that are not.
-stopped : (s : List ℕ) (j : ℕ) (after : List ℕ) → first_wide s ≡ wide_from j (drop j s) → j < length s → 15 < get_or s j 0 → Gathers s after (outcome 9 j)
+stopped : (s : List ℕ) (j : ℕ) (after : List ℕ) → first_wide s ≡ wide_from j (drop j s) → j < length s → 15 < get_or s j 0 → PacksTo s after (Some j)
 stopped s j after e h w =
     let here : first_wide s ≡ some j = e ∙ rw (drop-cons s j 0 h) (wide_here j (get_or s j 0) _ w) in
-    record { told = rw here; packed = λ n. let z : ◌≡◌ {A = ℕ} 0 1 = cc in absurd (omega arith) }
+    record { first = rw here; packed = λ n. let z : ◌≡◌ {A = ℕ} 0 1 = cc in absurd (omega arith) }
 
 module _ (b o₀ : List ℕ) (h : 4 + 2 * length o₀ < length (without_real_time b)) where
   abbrev sent : List ℕ
@@ -64,7 +64,7 @@ module _ (b o₀ : List ℕ) (h : 4 + 2 * length o₀ < length (without_real_tim
       low_byte : get_or sent (2 * k) 0 ≡ get_or b at 0
       low_byte = sent_byte (length o₀) (without_real_time b) (omega arith) (2 * k) (omega arith) ∙ stands_byte b (4 + 2 * k) at first
 
-      pub low_wide : 15 < get_or b at 0 → Gathers sent o (outcome 9 (2 * k))
+      pub low_wide : 15 < get_or b at 0 → PacksTo sent o (Some (2 * k))
       low_wide w = stopped sent (2 * k) o u.narrow (omega (arith, long)) (omega (arith, low_byte))
 
       -- The place of the pair's second nibble.
@@ -81,7 +81,7 @@ module _ (b o₀ : List ℕ) (h : 4 + 2 * length o₀ < length (without_real_tim
               let same : 4 + (2 * k + 1) ≡ 4 + 2 * k + 1 = omega arith in
               (rw same at (sent_byte (length o₀) (without_real_time b) (omega arith) (2 * k + 1) (omega arith))) ∙ stands_byte b (4 + 2 * k + 1) next there
 
-          pub high_wide : 15 < get_or b next 0 → Gathers sent o (outcome 9 (2 * k + 1))
+          pub high_wide : 15 < get_or b next 0 → PacksTo sent o (Some (2 * k + 1))
           high_wide w = stopped sent (2 * k + 1) o next_narrow (omega (arith, long)) (omega (arith, high_byte))
 
           pub packed_on : get_or b next 0 ≤ 15 → Underway sent b o₀ (set o k (get_or b at 0 + 16 * get_or b next 0)) (next + 1) (k + 1)
@@ -109,13 +109,13 @@ module _ (b o₀ : List ℕ) (h : 4 + 2 * length o₀ < length (without_real_tim
         rw two at (packed_on data_byte narrow.0 (at + 1) there narrow.1)
 
   -- All of them.
-  pub gathered : (o : List ℕ) (at k : ℕ) → Underway sent b o₀ o at k → length o₀ ≤ k → Gathers sent o (outcome 0 0)
+  pub gathered : (o : List ℕ) (at k : ℕ) → Underway sent b o₀ o at k → length o₀ ≤ k → PacksTo sent o None
   gathered o at k u l =
       let all : k ≡ length o₀ = omega (arith, u.copied.0) in
       let whole : passed sent k ≡ pack sent = ap pack (take_all (2 * k) sent (omega (arith, long))) in
       let ends : length o₀ ≤ length (passed sent k) = omega (arith, ap length whole, length_pack sent, long) in
       let none_wide = u.narrow ∙ wide_end sent (2 * k) (omega (arith, long)) in
       record {
-        told = rw none_wide;
+        first = rw none_wide;
         packed = λ _. u.copied.2 ∙ rw (drop_of_length-le o₀ ends, append-nil, whole);
       }

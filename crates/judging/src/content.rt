@@ -3,7 +3,7 @@
 ghost use Rattle.std.specs.Prelude.{◌≡◌, true, ◌+◌, ◌*◌, ◌<◌, length, slice_get};
 ghost use Rattle.answers.specs.Refusals.{told_test};
 ghost use Rattle.streams.specs.Bytes.{without_real_time, real_time_in};
-ghost use Rattle.judging.specs.code.Content.{content_by, sent_in, FrontQuiet, StandsAt, LastAt, Gathers};
+ghost use Rattle.judging.specs.code.Content.{content_by, sent_in, FrontQuiet, StandsAt, LastAt, PacksTo, Gathers};
 
 use answers::Refusal;
 use frames::END;
@@ -52,11 +52,11 @@ fn last_place(body: &[u8]) -> usize
     last
 }
 
-// A dump's data, packed from among real time: 9 with the first byte above 15, or the packed bytes. The caller below has seen that a byte stands
+// A dump's data, packed from among real time: the first byte above 15, or the packed bytes. The caller below has seen that a byte stands
 // behind them.
-fn gather(body: &[u8], packed: &mut [u8]) -> Result<(), Refusal>
+fn gather(body: &[u8], packed: &mut [u8]) -> Option<usize>
     requires { 4 + 2 * length packed.old < length (without_real_time body.now) }
-    ensures { Gathers (sent_in (length packed.old) (without_real_time body.now)) packed.new (told_test result) }
+    ensures { PacksTo (sent_in (length packed.old) (without_real_time body.now)) packed.new result }
 {
     let mut at = place_of(body, NUMBER) + 1;
     let mut k: usize = 0;
@@ -73,19 +73,19 @@ fn gather(body: &[u8], packed: &mut [u8]) -> Result<(), Refusal>
             at += 1;
         } else {
             if 15 < low {
-                return Err(Refusal::WideData(2 * k));
+                return Some(2 * k);
             }
             let next = frames::past_real_time(body, at + 1);
             let second = body[next];
             if 15 < second {
-                return Err(Refusal::WideData(2 * k + 1));
+                return Some(2 * k + 1);
             }
             packed[k] = low + 16 * second;
             at = next + 1;
             k += 1;
         }
     }
-    Ok(())
+    None
 }
 
 // Data bytes, packed into a room that fits them: 9 with the first one above 15, or the packed bytes. Its callers have seen that they fit.
@@ -159,7 +159,10 @@ impl<'a> Content<'a> {
         ensures { Gathers (sent_in (length packed.old) (content_by self.entry.count self.entry.body.now)) packed.new (told_test result) }
     {
         if self.count != self.body.len() {
-            return gather(self.body, packed);
+            return match gather(self.body, packed) {
+                Some(index) => Err(Refusal::WideData(index)),
+                None => Ok(()),
+            };
         }
         let end = FRONT + 2 * packed.len();
         pack_sent(&self.body[FRONT..end], packed)

@@ -1,9 +1,10 @@
 -- A message's content among its real time: which bytes of its body it is, where each stands, and what packing a dump's data leaves.
-use Rattle.std.specs.Prelude.{◌≡◌, cond, List, [], ◌∷◌, ℕ, ◌+◌, ◌*◌, ◌-◌, ◌<◌, ◌≤◌, eqb, length, take, drop, get_or}
+use Rattle.std.specs.Prelude.{◌≡◌, Option as Maybe, cond, List, [], ◌∷◌, ℕ, ◌+◌, ◌*◌, ◌-◌, ◌<◌, ◌≤◌, eqb, length, take, drop, get_or}
 use Rattle.std.proofs.Math.Option.{none}
 use Rattle.answers.specs.declared.Outcome.{Outcome}
 use Rattle.answers.specs.Table.{row_at}
 use Rattle.answers.specs.Effect.{tested}
+use Rattle.ranges.specs.code.Found.{found_at}
 use Rattle.streams.specs.Bytes.{without_real_time}
 use Rattle.nibbles.specs.Nibbles.{pack, first_wide}
 
@@ -33,7 +34,12 @@ sent_in size c = take (2 * size) (drop 4 c)
 abbrev pub sum_in : ℕ → List ℕ → ℕ
 sum_in size c = get_or c (4 + 2 * size) 0
 
--- What packing a dump's data d leaves: 9 with the first byte above 15, or the packed bytes.
+-- What packing a dump's data d finds and leaves: the first byte above 15, or the packed bytes.
+pub record PacksTo (d after : List ℕ) (r : Maybe ℕ) : Type 0 where
+  pub first : r ≡ found_at (first_wide d)
+  pub packed : first_wide d ≡ none → after ≡ pack d
+
+-- The same as it is told: 9 with the first byte above 15, or the packed bytes.
 pub record Gathers (d after : List ℕ) (r : Outcome) : Type 0 where
   pub told : r ≡ tested (row_at 9 (first_wide d) ∷ [])
   pub packed : first_wide d ≡ none → after ≡ pack d
