@@ -45,11 +45,13 @@ impl Part {
         ensures { result ≡ same_at self.place a.now b.now }
     {
         let k = self.place;
-        if k < SOURCE_AT {
-            a[k] == b[k]
-        } else {
-            a[k] == b[k] && a[k + 1] == b[k + 1] && a[k + 2] == b[k + 2]
+        if a[k] != b[k] {
+            return false;
         }
+        if k < SOURCE_AT {
+            return true;
+        }
+        a[k + 1] == b[k + 1] && a[k + 2] == b[k + 2]
     }
 }
 
@@ -86,12 +88,14 @@ impl<'a> Iterator for Differing<'a> {
 
     ghost remaining = { item_count left };
 
-    // The place is counted by hand, since a step is one byte or three: this is the one walk over the parts.
+    // The place is counted by hand, since a step is one byte or three: this is the one walk over the parts. It goes on behind the comparison,
+    // where the compiler knows a parameter's step.
     fn next(&mut self) -> Option<Part> {
         while self.at < PATCH {
             let part = Part { place: self.at };
+            let same = part.is_same(self.a, self.b);
             self.at += part.width();
-            if !part.is_same(self.a, self.b) {
+            if !same {
                 return Some(part);
             }
         }
